@@ -1,0 +1,63 @@
+-- A list in strict order has each member once.
+--     Steps xs        each member comes after the one before it: what a scan sees
+--     Ascending xs    each comes after all that stand before it
+--     ascending       the first gives the second, for a transitive order
+--     single          in an ascending list a member occurs once
+--     once            so does the image of each member, where the list is closed under f (what `involution` asks)
+-- Assumes nothing.
+use mathlib.Core.Path.{_≡_, refl, sym, ap, _∙_, subst}
+use mathlib.Core.Logic.{_⊎_, inl, inr}
+use mathlib.Core.Bool.{Bool, true, false}
+use mathlib.Core.List.{List, [], _∷_, List·Memᴰ, List·Memᴰ·not-nil, List·Memᴰ·cases-cons}
+use Prim.Native.Nat.{ℕ, _+_, _≤_}
+use native.Mathlib.Omega.{arith}
+use Rattle.counts.specs.Count.{_∈_, ind, sum, count}
+use Rattle.counts.proofs.TestLaws.{is-false}
+use Rattle.counts.proofs.CountLaws.{count-off, count-some}
+
+module _ {A : Type 0} (lt : A → A → Type 0) where
+  abbrev pub Ascending : List A → Type 0
+  Ascending [] = Unit {0}
+  Ascending (x ∷ xs) = ((y : A) → y ∈ xs → lt x y) × Ascending xs
+
+  abbrev pub Steps : List A → Type 0
+  Steps [] = Unit {0}
+  Steps (x ∷ []) = Unit {0}
+  Steps (x ∷ y ∷ ys) = lt x y × Steps (y ∷ ys)
+
+  module _ (trans : (x y z : A) → lt x y → lt y z → lt x z) where
+    above : (x y : A) (ys : List A) → lt x y → Ascending (y ∷ ys) → (z : A) → z ∈ y ∷ ys → lt x z
+    above x y ys l a z m = go (List·Memᴰ·cases-cons m)
+      where
+        go : (z ≡ y) ⊎ (z ∈ ys) → lt x z
+        go (inl e) = rw e l
+        go (inr k) = trans x y z l (a .0 z k)
+
+    pub ascending : (xs : List A) → Steps xs → Ascending xs
+    ascending [] s = tt
+    ascending (x ∷ []) s = ((λ y m. absurd (List·Memᴰ·not-nil m)), tt)
+    ascending (x ∷ y ∷ ys) s =
+        let a = ascending (y ∷ ys) (s .1) in
+        (above x y ys (s .0) a, a)
+
+  module _ (irrefl : (x : A) → lt x x → ⊥) (same : A → A → Bool) (same-true : (x y : A) → same x y ≡ true → x ≡ y) where
+    ind-le : (b : Bool) → ind b ≤ 1
+    ind-le true = omega arith
+    ind-le false = omega arith
+
+    pub single : (xs : List A) → Ascending xs → (x : A) → x ∈ xs → count (λ y. same y x) xs ≤ 1
+    unfolding sum
+    single (y ∷ ys) a x m = go (List·Memᴰ·cases-cons m) (λ k. single ys (a .1) x k)
+      where
+        go : (x ≡ y) ⊎ (x ∈ ys) → (x ∈ ys → count (λ z. same z x) ys ≤ 1) → ind (same y x) + count (λ z. same z x) ys ≤ 1
+        go (inl e) ih =
+            let off = count-off (λ z. same z x) ys (λ z k. is-false _ (λ t. irrefl y (subst (lt y) (same-true z x t ∙ e) (a .0 z k)))) in
+            omega (arith, ind-le (same y x))
+        go (inr k) ih =
+            let off = is-false (same y x) (λ t. irrefl y (subst (lt y) (sym (same-true y x t)) (a .0 x k))) in
+            omega (arith, ih k, ap ind off)
+
+    pub once : (same-refl : (x : A) → same x x ≡ true) (f : A → A) (xs : List A) → Ascending xs → ((x : A) → x ∈ xs → f x ∈ xs)
+        → (x : A) → x ∈ xs → count (λ y. same y (f x)) xs ≡ 1
+    once same-refl f xs a closed x m =
+        omega (arith, single xs a (f x) (closed x m), count-some (λ y. same y (f x)) xs (f x) (closed x m) (same-refl (f x)))

@@ -1,0 +1,9 @@
+pub mod TestLaws
+pub mod SumLaws
+pub mod CountLaws
+pub mod FirstLaws
+pub mod FibreLaws
+pub mod HighestLaws
+pub mod AscendingLaws
+pub mod TelescopeLaws
+pub mod ScanLaws

@@ -1,0 +1,14 @@
+pub mod PointLaws
+pub mod DifferenceLaws
+pub mod DeterminantLaws
+pub mod RangeLaws
+pub mod ScaleLaws
+pub mod MeetLaws
+pub mod HeightLaws
+pub mod SideLaws
+pub mod WithinLaws
+pub mod WayLaws
+pub mod CrossLaws
+pub mod SharedLaws
+pub mod TouchLaws
+pub mod OrderLaws
