@@ -158,10 +158,11 @@ module _ (M : ℕ) (scale : Scale M) where
 
     pub key-order : (x : ℕ) → Spans s (2 * x + 1) → Spans t (2 * x + 1) → key M t x < key M s x
         → (height M t (2 * x) ≤ height M s (2 * x)) × (height M t (2 * suc x) ≤ height M s (2 * suc x))
-    key-order x sk tk l =
-        (order-le (2 * x + 1) (2 * x) sk (spans s (2 * x) sk (omega arith) (omega arith)) tk (spans t (2 * x) tk (omega arith) (omega arith)) l,
-        order-le (2 * x + 1) (2 * suc x) sk (spans s (2 * suc x) sk (omega arith) (omega arith)) tk
-        (spans t (2 * suc x) tk (omega arith) (omega arith)) l)
+    key-order x sk tk l = (
+      order-le (2 * x + 1) (2 * x) sk (spans s (2 * x) sk (omega arith) (omega arith)) tk (spans t (2 * x) tk (omega arith) (omega arith)) l,
+      order-le (2 * x + 1) (2 * suc x) sk (spans s (2 * suc x) sk (omega arith) (omega arith)) tk
+          (spans t (2 * suc x) tk (omega arith) (omega arith)) l,
+    )
       where
         spans : (u : Segment) (k : ℕ) → Spans u (2 * x + 1) → 2 * u .a .x ≤ k → k ≤ 2 * u .b .x → Spans u k
         spans u k h l g = record { slanted = h .slanted; small = h .small; from = l; upto = g }

@@ -5,13 +5,14 @@
 --     Proper r            its two ends differ
 --     gap m n             how far two counts lie apart
 --     squareLength r      the square of its length
+--     Squared r q         q is that square, and no more than two products of counts
 --     leads r e           at one end and of one half: r turns counter-clockwise onto e, or lies in line with it and is shorter
 --     earlier r e         at one end: right halves before left, then as `leads` says
 --     precedes r e        document 01's order: the smaller dominating end first, then as `earlier` says. The mark does not count
 -- Assumes nothing.
 use mathlib.Core.Path.{_≡_}
 use mathlib.Core.Bool.{Bool, false, _&&_, _||_, cond}
-use Prim.Native.Nat.{ℕ, _+_, _-_, _*_}
+use Prim.Native.Nat.{ℕ, _+_, _-_, _*_, _≤_}
 use lib.Dec.{ltb}
 use Rattle.counts.specs.Count.{_⊕_}
 use Rattle.plane.specs.declared.Point.{Point}
@@ -38,6 +39,10 @@ gap m n = (m - n) + (n - m)
 unfoldable pub squareLength : Record → ℕ
 squareLength r =
     gap (r .dom .x) (r .other .x) * gap (r .dom .x) (r .other .x) + gap (r .dom .y) (r .other .y) * gap (r .dom .y) (r .other .y)
+
+pub record Squared (r : Record) (q : ℕ) : Type 0 where
+  pub is : q ≡ squareLength r
+  pub most : q ≤ 8589672450
 
 unfoldable pub leads : Record → Record → Bool
 leads r e =

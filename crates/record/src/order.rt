@@ -1,0 +1,63 @@
+// The order of two records (document 01, "How a chart is laid out").
+ghost use mathlib.Core.Path.{_≡_};
+ghost use Rattle.record.specs.Order.{gap, Squared, leads, earlier, precedes};
+use crate::Record;
+use crate::is_left;
+use grid::Turn;
+
+fn gap_of(m: u16, n: u16) -> u16
+    ensures { λ r. ⌜ r ≡ gap m n ⌝ }
+{
+    if m < n {
+        return n - m;
+    }
+    m - n
+}
+
+fn square_length_of(r: Record) -> u64
+    ensures { λ q. ⌜ Squared r q ⌝ }
+{
+    let w = gap_of(r.dom.x, r.other.x);
+    let h = gap_of(r.dom.y, r.other.y);
+    grid::product(w, w) + grid::product(h, h)
+}
+
+// Which of two records of one half at one end leads. Lengths are looked at only in line.
+fn is_leading(r: Record, e: Record) -> bool
+    ensures { λ b. ⌜ b ≡ leads r e ⌝ }
+{
+    let t = grid::turn_of(r.dom, r.other, e.other);
+    match t {
+        Turn::Left => true,
+        Turn::Straight => square_length_of(r) < square_length_of(e),
+        Turn::Right => false,
+    }
+}
+
+fn is_earlier_here(r: Record, e: Record) -> bool
+    ensures { λ b. ⌜ b ≡ earlier r e ⌝ }
+{
+    if is_left(r) {
+        if is_left(e) {
+            return is_leading(r, e);
+        }
+        return false;
+    }
+    if is_left(e) {
+        return true;
+    }
+    is_leading(r, e)
+}
+
+// Whether r comes strictly before e in a chart.
+pub fn is_earlier(r: Record, e: Record) -> bool
+    ensures { λ b. ⌜ b ≡ precedes r e ⌝ }
+{
+    if grid::is_before(r.dom, e.dom) {
+        return true;
+    }
+    if grid::is_same(r.dom, e.dom) {
+        return is_earlier_here(r, e);
+    }
+    false
+}
