@@ -7,7 +7,7 @@ use mathlib.Core.Path.{_≡_}
 use mathlib.Core.Bool.{Bool, cond}
 use Prim.Native.Nat.{ℕ, _*_, _≤_}
 use Rattle.plane.specs.declared.Point.{Point}
-use Rattle.plane.specs.Turns.{turnsLeft, turnsRight}
+use Rattle.plane.specs.Turns.{turnsLeft, turnsRight, largestProduct}
 use Rattle.grid.specs.declared.Turn.{Turn}
 use Rattle.grid.specs.declared.Turn.the-variants.{Left, Straight, Right}
 
@@ -16,8 +16,8 @@ turnOf p q r = cond (turnsLeft p q r) Left (cond (turnsRight p q r) Right Straig
 
 pub record Product (a b r : ℕ) : Type 0 where
   pub is : r ≡ a * b
-  pub most : r ≤ 4294836225
+  pub most : r ≤ largestProduct
 
 pub record TurnSum (n s : ℕ) : Type 0 where
   pub is : s ≡ n
-  pub most : s ≤ 12884508675
+  pub most : s ≤ 3 * largestProduct

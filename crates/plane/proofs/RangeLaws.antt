@@ -1,7 +1,7 @@
 -- How far the products, the sums and the determinant reach at points of the grid, whose coordinates are below 65,536.
 --     OnGrid p             p is such a point
 --     product-range        a product of two coordinates is at most 65,535 * 65,535
---     plus-range, minus-range     three of them are at most 3 * 65,535 * 65,535
+--     product-fits         so it fits 64 bits
 --     determinant-range    plus and minus differ by at most 65,535 * 65,535, the area of the grid's box
 -- Assumes nothing.
 use Prim.Native.Nat.{ℕ, _+_, _-_, _*_, _≤_, _<_}
@@ -11,32 +11,18 @@ use native.Mathlib.Nat.{mul-le-mul, mul-le-mul-left, le-of-lt, le-trans}
 use native.Mathlib.Omega.{arith}
 use Rattle.counts.proofs.TestLaws.{lt-or-le}
 use Rattle.plane.specs.declared.Point.{Point}
-use Rattle.plane.specs.Turns.{plus, minus}
+use Rattle.plane.specs.Turns.{plus, minus, largestProduct}
 
 pub record OnGrid (p : Point) : Type 0 where
   pub x-small : p .x < 65536
   pub y-small : p .y < 65536
 
-pub product-range : (a b : ℕ) → a < 65536 → b < 65536 → a * b ≤ 4294836225
+pub product-range : (a b : ℕ) → a < 65536 → b < 65536 → a * b ≤ largestProduct
 product-range a b h k = mul-le-mul {n₂ = 65535} {m₂ = 65535} (omega arith) (omega arith)
 
-pub plus-range : (p q r : Point) → OnGrid p → OnGrid q → OnGrid r → plus p q r ≤ 12884508675
-plus-range p q r f g h =
-    omega (
-      arith,
-      product-range (p .x) (q .y) (f .x-small) (g .y-small),
-      product-range (q .x) (r .y) (g .x-small) (h .y-small),
-      product-range (r .x) (p .y) (h .x-small) (f .y-small),
-    )
-
-pub minus-range : (p q r : Point) → OnGrid p → OnGrid q → OnGrid r → minus p q r ≤ 12884508675
-minus-range p q r f g h =
-    omega (
-      arith,
-      product-range (p .y) (q .x) (f .y-small) (g .x-small),
-      product-range (q .y) (r .x) (g .y-small) (h .x-small),
-      product-range (r .y) (p .x) (h .y-small) (f .x-small),
-    )
+-- so a product fits 64 bits, where signed 32 are too few
+pub product-fits : (a b : ℕ) → a < 65536 → b < 65536 → a * b < 18446744073709551616
+product-fits a b h k = omega (arith, product-range a b h k)
 
 le-or-ge : (m n : ℕ) → (m ≤ n) ⊎ (n ≤ m)
 le-or-ge m n = ⊎-elim (λ l. inl (le-of-lt l)) (λ l. inr l) (lt-or-le m n)
@@ -50,29 +36,29 @@ stretch k m n small h =
 -- The points are (a, b), (c, d) and (e, f), and the first is the lowest: their turn is a * (d - f) + c * (f - b) less
 -- e * (d - b). The last only takes away. The first takes away too, or else the two stretch from b up to d.
 first-lowest : (a b c d e f : ℕ) → a < 65536 → c < 65536 → d < 65536 → f < 65536 → b ≤ d → b ≤ f
-    → a * d + c * f + e * b ≤ b * c + d * e + f * a + 4294836225
+    → a * d + c * f + e * b ≤ b * c + d * e + f * a + largestProduct
 first-lowest a b c d e f a-small c-small d-small f-small bd bf = by-height (le-or-ge d f)
   where
-    by-height : (d ≤ f) ⊎ (f ≤ d) → a * d + c * f + e * b ≤ b * c + d * e + f * a + 4294836225
+    by-height : (d ≤ f) ⊎ (f ≤ d) → a * d + c * f + e * b ≤ b * c + d * e + f * a + largestProduct
     by-height (inl df) = omega (arith, mul-le-mul-left a df, stretch c f b c-small bf, mul-le-mul-left e bd)
     by-height (inr fd) = omega (arith, stretch a d f a-small fd, stretch c f b c-small bf, mul-le-mul-left e bd)
 
 -- a turn of the three points changes neither sum, so that any of them may be the lowest
-plus-near : (p q r : Point) → OnGrid p → OnGrid q → OnGrid r → plus p q r ≤ minus p q r + 4294836225
+plus-near : (p q r : Point) → OnGrid p → OnGrid q → OnGrid r → plus p q r ≤ minus p q r + largestProduct
 plus-near p q r f g h = by-lowest (le-or-ge (p .y) (q .y)) (le-or-ge (q .y) (r .y)) (le-or-ge (r .y) (p .y))
   where
     from : (p q r : Point) → OnGrid p → OnGrid q → OnGrid r → p .y ≤ q .y → p .y ≤ r .y
-        → plus p q r ≤ minus p q r + 4294836225
+        → plus p q r ≤ minus p q r + largestProduct
     from p q r f g h =
         first-lowest (p .x) (p .y) (q .x) (q .y) (r .x) (r .y) (f .x-small) (g .x-small) (g .y-small) (h .y-small)
 
     by-lowest : (p .y ≤ q .y) ⊎ (q .y ≤ p .y) → (q .y ≤ r .y) ⊎ (r .y ≤ q .y) → (r .y ≤ p .y) ⊎ (p .y ≤ r .y)
-        → plus p q r ≤ minus p q r + 4294836225
+        → plus p q r ≤ minus p q r + largestProduct
     by-lowest (inl pq) o (inr pr) = from p q r f g h pq pr
     by-lowest (inl pq) o (inl rp) = omega (arith, from r p q h f g rp (le-trans rp pq))
     by-lowest (inr qp) (inl qr) o = omega (arith, from q r p g h f qr qp)
     by-lowest (inr qp) (inr rq) o = omega (arith, from r p q h f g (le-trans rq qp) rq)
 
 pub determinant-range : (p q r : Point) → OnGrid p → OnGrid q → OnGrid r
-    → (plus p q r ≤ minus p q r + 4294836225) × (minus p q r ≤ plus p q r + 4294836225)
+    → (plus p q r ≤ minus p q r + largestProduct) × (minus p q r ≤ plus p q r + largestProduct)
 determinant-range p q r f g h = (plus-near p q r f g h, omega (arith, plus-near q p r g f h))

@@ -5,6 +5,7 @@
 --     determinant u v    of two directions: positive where u turns counter-clockwise onto v, zero in line
 --     plus p q r, minus p q r    the determinant of the ways from p to q and from p to r is plus less minus;
 --                        both are sums of products of counts, so a program compares them and never subtracts
+--     largestProduct     how far a product inside a determinant reaches: 65,535 squared, 4,294,836,225
 --     turnsLeft, turnsRight, straight   from p, the way to q turns counter-clockwise, clockwise or not onto the way to r
 -- That the three tests are the determinant's sign is `turnsLeft-is`, `turnsRight-is` and `straight-is` of
 -- proofs/DeterminantLaws.antt; how far the products reach is `product-range` of proofs/RangeLaws.antt.
@@ -30,6 +31,9 @@ plus p q r = p .x * q .y + q .x * r .y + r .x * p .y
 
 abbrev pub minus : Point → Point → Point → ℕ
 minus p q r = p .y * q .x + q .y * r .x + r .y * p .x
+
+abbrev pub largestProduct : ℕ
+largestProduct = 65535 * 65535
 
 unfoldable pub turnsLeft : Point → Point → Point → Bool
 turnsLeft p q r = ltb (minus p q r) (plus p q r)

@@ -18,7 +18,7 @@ use Rattle.counts.specs.Count.{_⊕_}
 use Rattle.plane.specs.declared.Point.{Point}
 use Rattle.plane.specs.declared.Segment.{Segment}
 use Rattle.plane.specs.Points.{before, same}
-use Rattle.plane.specs.Turns.{turnsLeft, straight}
+use Rattle.plane.specs.Turns.{turnsLeft, straight, largestProduct}
 use Rattle.record.specs.declared.Record.{Record}
 
 abbrev pub left : Record → Bool
@@ -42,7 +42,7 @@ squareLength r =
 
 pub record Squared (r : Record) (q : ℕ) : Type 0 where
   pub is : q ≡ squareLength r
-  pub most : q ≤ 8589672450
+  pub most : q ≤ 2 * largestProduct
 
 unfoldable pub leads : Record → Record → Bool
 leads r e =

@@ -8,7 +8,7 @@ cast-result : tie.Need-cast-result
 cast-result c = search needs
 
 sub-result : tie.Need-sub-result
-sub-result c = difference-fits (c .args .n) (search needs)
+sub-result c = difference-fits (c .args .n) (search needs) _ (search needs)
 
 cast-result-2 : tie.Need-cast-result-2
 cast-result-2 c = narrowed-fits (c .args .n) (search needs)
