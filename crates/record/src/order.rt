@@ -38,15 +38,9 @@ fn is_earlier_here(r: Record, e: Record) -> bool
     ensures { λ b. ⌜ b ≡ earlier r e ⌝ }
 {
     if is_left(r) {
-        if is_left(e) {
-            return is_leading(r, e);
-        }
-        return false;
+        return is_left(e) && is_leading(r, e);
     }
-    if is_left(e) {
-        return true;
-    }
-    is_leading(r, e)
+    is_left(e) || is_leading(r, e)
 }
 
 // Whether r comes strictly before e in a chart.
@@ -56,8 +50,5 @@ pub fn is_earlier(r: Record, e: Record) -> bool
     if grid::is_before(r.dom, e.dom) {
         return true;
     }
-    if grid::is_same(r.dom, e.dom) {
-        return is_earlier_here(r, e);
-    }
-    false
+    grid::is_same(r.dom, e.dom) && is_earlier_here(r, e)
 }

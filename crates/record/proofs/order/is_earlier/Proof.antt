@@ -24,7 +24,8 @@ returns-3 c =
     let second = c .before in
     let first = second .before .before in
     let args = first .before .args in
-    sym (precedes-past (args .r) (args .e) (sym (first .is-before .ensures) ∙ second .before .if1 .left)
+    c .if2 .left
+    ∙ sym (precedes-past (args .r) (args .e) (sym (first .is-before .ensures) ∙ second .before .if1 .left)
     (sym (second .is-same .ensures) ∙ c .if2 .left))
 
 pub is-earlier-spec : {M : Type 1} → statement M

@@ -19,7 +19,8 @@ returns-2 c =
     let second = c .before in
     let first = second .before .before in
     let args = first .before .args in
-    sym (earlier-halves (args .r) (args .e) (sym (second .before .if1 .taken) ∙ first .is-left .ensures)
+    c .if2 .left
+    ∙ sym (earlier-halves (args .r) (args .e) (sym (second .before .if1 .taken) ∙ first .is-left .ensures)
     (sym (c .if2 .left) ∙ second .is-left2 .ensures))
 
 returns-3 : tie.Need-returns-3
@@ -27,7 +28,8 @@ returns-3 c =
     let second = c .before in
     let first = second .before .before in
     let args = first .before .args in
-    sym (earlier-halves (args .r) (args .e) (sym (second .before .if1 .left) ∙ first .is-left .ensures)
+    c .if3 .taken
+    ∙ sym (earlier-halves (args .r) (args .e) (sym (second .before .if1 .left) ∙ first .is-left .ensures)
     (sym (c .if3 .taken) ∙ second .is-left3 .ensures))
 
 returns-4 : tie.Need-returns-4
@@ -42,5 +44,5 @@ returns-4 c =
 pub is-earlier-here-spec : {M : Type 1} → statement M
 is-earlier-here-spec =
     tie.close
-    (tie.spec (λ c κs. search needs) (λ c κs. search needs) (λ c κs. search needs) returns returns-2 (λ c κs. search needs) returns-3
-    (λ c κs. search needs) returns-4)
+    (tie.spec (λ c κs. search needs) (λ c κs. search needs) (λ c κs. search needs) returns returns-2 (λ c κs. search needs)
+    (λ c κs. search needs) returns-3 returns-4)
