@@ -3,6 +3,7 @@
 use grid::Coord;
 use grid::Located;
 use grid::Turn;
+use grid::point_of;
 use plane::Point;
 use record::Record;
 
@@ -66,13 +67,6 @@ fn say_part(text: &[u8], part: &[i16]) {
 
 // ---- making
 
-fn point(x: i16, y: i16) -> Point {
-    Point {
-        x: Coord::new(x).count(),
-        y: Coord::new(y).count(),
-    }
-}
-
 fn half(a: Point, b: Point) -> Record {
     Record {
         dom: a,
@@ -116,16 +110,21 @@ fn say_turn(text: &[u8], p: Point, q: Point, r: Point) {
 // The corners of the grid. A product here reaches 65,535 squared: in signed 32 bits the first line would say right, and the
 // sums of the third pass unsigned 32 bits, where it would say right too.
 fn turns() {
-    let sw = point(-32768, -32768);
-    let se = point(32767, -32768);
-    let nw = point(-32768, 32767);
-    let ne = point(32767, 32767);
+    let sw = point_of(-32768, -32768);
+    let se = point_of(32767, -32768);
+    let nw = point_of(-32768, 32767);
+    let ne = point_of(32767, 32767);
     say_turn(b"the large triangle", sw, se, nw);
     say_turn(b"the large triangle, the other way round", sw, nw, se);
     say_turn(b"three corners up the right side", se, ne, nw);
-    say_turn(b"corner to corner through the middle", sw, point(0, 0), ne);
-    say_turn(b"one row below the middle", sw, ne, point(0, -1));
-    say_turn(b"one row above the middle", sw, ne, point(0, 1));
+    say_turn(
+        b"corner to corner through the middle",
+        sw,
+        point_of(0, 0),
+        ne,
+    );
+    say_turn(b"one row below the middle", sw, ne, point_of(0, -1));
+    say_turn(b"one row above the middle", sw, ne, point_of(0, 1));
     say_turn(b"a point twice", sw, sw, ne);
 }
 
@@ -145,11 +144,11 @@ fn say_order(text: &[u8], r: Record, e: Record) {
 }
 
 fn orders() {
-    let sw = point(-32768, -32768);
-    let se = point(32767, -32768);
-    let nw = point(-32768, 32767);
-    let ne = point(32767, 32767);
-    let middle = point(0, 0);
+    let sw = point_of(-32768, -32768);
+    let se = point_of(32767, -32768);
+    let nw = point_of(-32768, 32767);
+    let ne = point_of(32767, 32767);
+    let middle = point_of(0, 0);
     say_order(b"the smaller dominating end", half(sw, ne), half(ne, sw));
     say_order(
         b"a right half before a left one",
@@ -167,7 +166,7 @@ fn orders() {
     say_order(b"in line, the shorter", half(sw, ne), half(sw, middle));
     say_order(
         b"in line straight down, the shorter",
-        half(nw, point(-32768, 32766)),
+        half(nw, point_of(-32768, 32766)),
         half(nw, sw),
     );
     say_order(b"the same ends", half(sw, ne), half(sw, ne));
@@ -230,27 +229,27 @@ fn runs() {
     ];
     say_part(
         b"the run at (0,0)",
-        record::parts::run_at(&square, point(0, 0)),
+        record::parts::run_at(&square, point_of(0, 0)),
     );
     say_part(
         b"the run at (4,4)",
-        record::parts::run_at(&square, point(4, 4)),
+        record::parts::run_at(&square, point_of(4, 4)),
     );
     say_part(
         b"the run at (2,0), inside a side",
-        record::parts::run_at(&square, point(2, 0)),
+        record::parts::run_at(&square, point_of(2, 0)),
     );
     say_part(
         b"the run at (4,4) of 39 numbers",
-        record::parts::run_at(&square[0..39], point(4, 4)),
+        record::parts::run_at(&square[0..39], point_of(4, 4)),
     );
     say_part(
         b"the run at (0,0) of 7 numbers",
-        record::parts::run_at(&square[0..7], point(0, 0)),
+        record::parts::run_at(&square[0..7], point_of(0, 0)),
     );
     say_part(
         b"the run at (0,0) of no numbers",
-        record::parts::run_at(&square[0..0], point(0, 0)),
+        record::parts::run_at(&square[0..0], point_of(0, 0)),
     );
 }
 

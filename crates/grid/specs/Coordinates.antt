@@ -6,12 +6,14 @@
 --     located z     the coordinate z, or Off
 --     up z          how far z lies above the lower end: -32,768 is 0 and 32,767 is 65,535
 --     down n        the way back, for a count below 65,536
--- That each is the other's inverse, that `up` keeps the order, and that it keeps every difference are laws of
--- proofs/CoordinateLaws.antt. Assumes nothing.
+--     pointOf x y   the point with these coordinates, counted
+-- That each is the other's inverse, that `up` keeps the order and every difference are laws of proofs/CoordinateLaws.antt; so
+-- points compare and turn as their signed coordinates do, by proofs/SignedLaws.antt. Assumes nothing.
 use mathlib.Core.Bool.{Bool, true, false, cond, _&&_}
 use Prim.Native.Nat.{ℕ, _+_, _-_}
 use lib.IntN.{ℤ, pos, negsuc, _-ℤ_}
 use lib.Signed.{leZ}
+use Rattle.plane.specs.declared.Point.{Point}
 use Rattle.grid.specs.declared.Coord.{Coord}
 use Rattle.grid.specs.declared.Located.{Located}
 use Rattle.grid.specs.declared.Located.the-variants.{On, Off}
@@ -37,3 +39,6 @@ up (negsuc n) = 32767 - n
 
 abbrev pub down : ℕ → ℤ
 down n = pos n -ℤ pos 32768
+
+abbrev pub pointOf : ℤ → ℤ → Point
+pointOf x y = record { x = up x; y = up y }

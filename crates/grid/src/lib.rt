@@ -2,7 +2,7 @@
 ghost use mathlib.Core.Path.{_≡_};
 ghost use Rattle.plane.specs.Points.{before, same};
 ghost use Rattle.plane.specs.Turns.{plus, minus};
-ghost use Rattle.grid.specs.Coordinates.{least, greatest, coordOf, located, up, down};
+ghost use Rattle.grid.specs.Coordinates.{least, greatest, coordOf, located, up, down, pointOf};
 ghost use Rattle.grid.specs.Turning.{Product, TurnSum, turnOf};
 use plane::Point;
 
@@ -81,6 +81,16 @@ pub fn number_at(n: u16) -> i16
     ensures { λ r. ⌜ r ≡ down n ⌝ }
 {
     (n as i32 - 32768) as i16
+}
+
+// The point with these coordinates.
+pub fn point_of(x: i16, y: i16) -> Point
+    ensures { λ p. ⌜ p ≡ pointOf x y ⌝ }
+{
+    Point {
+        x: count_of(x),
+        y: count_of(y),
+    }
 }
 
 // ---- two points

@@ -1,7 +1,6 @@
 -- Points and their order (document 01: "Points are ordered by x, then y").
 --     before p q     p is the smaller
 --     same p q       they are one point
---     upright s      s is vertical
 --     Forward s      a is the smaller end of s, as of every segment of a chart
 -- Assumes nothing.
 use mathlib.Core.Path.{_≡_}
@@ -15,9 +14,6 @@ before p q = ltb (p .x) (q .x) || (eqb (p .x) (q .x) && ltb (p .y) (q .y))
 
 abbrev pub same : Point → Point → Bool
 same p q = eqb (p .x) (q .x) && eqb (p .y) (q .y)
-
-abbrev pub upright : Segment → Bool
-upright s = eqb (s .a .x) (s .b .x)
 
 abbrev pub Forward : Segment → Type 0
 Forward s = before (s .a) (s .b) ≡ true

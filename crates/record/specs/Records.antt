@@ -14,7 +14,7 @@ use lib.IntN.{ℤ, pos}
 use lib.ListN.{length, getD}
 use Rattle.counts.specs.Count.{listed}
 use Rattle.plane.specs.declared.Point.{Point}
-use Rattle.grid.specs.Coordinates.{up}
+use Rattle.grid.specs.Coordinates.{up, pointOf}
 use Rattle.record.specs.declared.Record.{Record}
 
 abbrev pub width : ℕ
@@ -24,7 +24,7 @@ abbrev pub countAt : List ℤ → ℕ → ℕ
 countAt s i = up (getD s i (pos 0))
 
 abbrev pub pointAt : List ℤ → ℕ → Point
-pointAt s i = record { x = countAt s i; y = countAt s (i + 1) }
+pointAt s i = pointOf (getD s i (pos 0)) (getD s (i + 1) (pos 0))
 
 unfoldable pub recordAt : List ℤ → ℕ → Record
 recordAt s i = record { dom = pointAt s (width * i); other = pointAt s (width * i + 2); mark = countAt s (width * i + 4) }
