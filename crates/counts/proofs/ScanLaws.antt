@@ -1,4 +1,5 @@
 -- What a loop that looks for the first, or counts, holds on its way, and the laws that keep it: for any test p and any f.
+--     firstFrom-low, -high, -passes, -fails    its range, and what stands at the first place, and before it
 --     Seen p f a n i      from a up to i none passed, so the first from i on is the first from a on
 --     `Counted p f i m` of specs/Scan.antt is what a loop that counts holds at i
 --     scanning            for `search`: what closes the needs of such a loop
@@ -13,7 +14,8 @@ use native.Mathlib.Omega.{arith}
 use Rattle.counts.specs.Count.{ind, sum, count, firstIndex, listed}
 use Rattle.counts.specs.Scan.{firstFrom, Found, Counted}
 use Rattle.counts.proofs.CountLaws.{count-append}
-use Rattle.counts.proofs.FirstLaws.{listed-snoc}
+use Rattle.counts.proofs.FirstLaws.{firstIndex-most, firstIndex-passes, firstIndex-fails}
+use Rattle.counts.proofs.FirstLaws.{listed-snoc, listed-length, listed-at}
 
 module _ {A : Type 0} (p : A → Bool) (f : ℕ → A) where
   -- ---- the first from a place on
@@ -38,6 +40,34 @@ module _ {A : Type 0} (p : A → Bool) (f : ℕ → A) where
     where
       go : (k j : ℕ) → k ≡ suc j → i + firstIndex p (listed f i k) ≡ suc i + firstIndex p (listed f (suc i) j)
       go k j e = rw (e, t) (omega arith)
+
+-- what stands at the first place, and before it
+module _ {A : Type 0} (p : A → Bool) (f : ℕ → A) (a n : ℕ) (le : a ≤ n) where
+  pub firstFrom-low : a ≤ firstFrom p f a n
+  unfolding firstFrom
+  firstFrom-low = omega arith
+
+  pub firstFrom-high : firstFrom p f a n ≤ n
+  unfolding firstFrom
+  firstFrom-high = omega (arith, firstIndex-most p (f a) (listed f a (n - a)), listed-length f a (n - a))
+
+  pub firstFrom-passes : firstFrom p f a n < n → p (f (firstFrom p f a n)) ≡ true
+  unfolding firstFrom
+  firstFrom-passes l =
+      let i : ℕ = firstIndex p (listed f a (n - a)) in
+      let short : i < n - a = omega arith in
+      sym (ap p (listed-at f (f a) a (n - a) i short))
+      ∙ firstIndex-passes p (f a) (listed f a (n - a)) (omega (arith, listed-length f a (n - a)))
+
+  pub firstFrom-fails : (i : ℕ) → a ≤ i → i < firstFrom p f a n → p (f i) ≡ false
+  unfolding firstFrom
+  firstFrom-fails i h l =
+      let k : ℕ = i - a in
+      let there : a + k ≡ i = omega arith in
+      let short : k < n - a = omega (arith, firstIndex-most p (f a) (listed f a (n - a)), listed-length f a (n - a)) in
+      ap (λ j. p (f j)) (sym there)
+      ∙ sym (ap p (listed-at f (f a) a (n - a) k short))
+      ∙ firstIndex-fails p (f a) (listed f a (n - a)) k (omega arith)
 
 pub record Seen {A : Type 0} (p : A → Bool) (f : ℕ → A) (a n i : ℕ) : Type 0 where
   pub low : a ≤ i

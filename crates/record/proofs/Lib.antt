@@ -5,3 +5,4 @@ pub mod LeadLaws
 pub mod OrderLaws
 pub mod CaseLaws
 pub mod PartLaws
+pub mod RunLaws

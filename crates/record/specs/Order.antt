@@ -1,7 +1,6 @@
 -- Halves and the order of two records (document 01, "How a chart is laid out").
 --     left r              a left half: the dominating end is the smaller; every other record is a right half
 --     otherHalf r         the other half of its segment: the ends swapped, the mark the same
---     segment r           the segment of a left half
 --     Proper r            its two ends differ
 --     gap m n             how far two counts lie apart
 --     squareLength r      the square of its length
@@ -16,7 +15,6 @@ use Prim.Native.Nat.{ℕ, _+_, _-_, _*_, _≤_}
 use lib.Dec.{ltb}
 use Rattle.counts.specs.Count.{_⊕_}
 use Rattle.plane.specs.declared.Point.{Point}
-use Rattle.plane.specs.declared.Segment.{Segment}
 use Rattle.plane.specs.Points.{before, same}
 use Rattle.plane.specs.Turns.{turnsLeft, straight, largestProduct}
 use Rattle.record.specs.declared.Record.{Record}
@@ -26,9 +24,6 @@ left r = before (r .dom) (r .other)
 
 abbrev pub otherHalf : Record → Record
 otherHalf r = record { dom = r .other; other = r .dom; mark = r .mark }
-
-abbrev pub segment : Record → Segment
-segment r = record { a = r .dom; b = r .other }
 
 abbrev pub Proper : Record → Type 0
 Proper r = same (r .dom) (r .other) ≡ false
