@@ -45,12 +45,14 @@ echo 'stray:' >> "$copy/repo/crates.txt"
 expect refused 'a listed crate that is not there' 'stray'
 
 fresh
-printf 'use mathlib.Core.Path.{_≡_}\nuse Prim.Native.Nat.{ℕ}\n\npub hole : (n : ℕ) → n ≡ n\nhole n = ?\n' > "$copy/repo/crates/counts/proofs/HoleLaws.antt"
+printf 'use mathlib.Core.Path.{_≡_}\nuse Prim.Native.Nat.{ℕ}\n\npub hole : (n : ℕ) → n ≡ n\nhole n = ?\n' \
+    > "$copy/repo/crates/counts/proofs/HoleLaws.antt"
 echo 'pub mod HoleLaws' >> "$copy/repo/crates/counts/proofs/Lib.antt"
 expect refused 'a proof with a hole' 'HoleLaws'
 
 fresh
-printf 'use Prim.Native.Nat.{ℕ, _<_}\n\naxiom pub wish : (n : ℕ) → n < 0\n' > "$copy/repo/crates/counts/proofs/WishLaws.antt"
+printf 'use Prim.Native.Nat.{ℕ, _<_}\n\naxiom pub wish : (n : ℕ) → n < 0\n' \
+    > "$copy/repo/crates/counts/proofs/WishLaws.antt"
 echo 'pub mod WishLaws' >> "$copy/repo/crates/counts/proofs/Lib.antt"
 expect refused 'an axiom' 'wish'
 

@@ -1,5 +1,6 @@
-//! A judge from outside: document 01's rules for turns, the order of records, the run at a corner and the smaller head, written
-//! from its sentences with wide integers, and compared with what the program `probe` answers over the proved library.
+//! A judge from outside: document 01's rules for turns, the order of records, the run at a corner and the smaller head,
+//! written from its sentences with wide integers, and compared with what the program `probe` answers over the proved
+//! library.
 //!
 //!     judge PROBE [QUESTIONS [SEED]]
 //!
@@ -42,7 +43,8 @@ fn length_squared(r: Record) -> i128 {
 }
 
 /// "Order of two records: smaller dominating end first; at one end, right halves before left; then the one that turns
-/// counter-clockwise onto the other (positive determinant of their directions); where that determinant is zero, the shorter."
+/// counter-clockwise onto the other (positive determinant of their directions); where that determinant is zero, the
+/// shorter."
 fn comes_first(r: Record, e: Record) -> bool {
     if r.dominating != e.dominating {
         return smaller(r.dominating, e.dominating);
@@ -62,8 +64,8 @@ fn record_of(numbers: &[i16]) -> Record {
     Record { dominating: (n(0), n(1)), other: (n(2), n(3)) }
 }
 
-/// "The run of records at a corner, those whose dominating end is the point asked for." An array that is no chart may have
-/// several such runs: the first is meant.
+/// "The run of records at a corner, those whose dominating end is the point asked for." An array that is no chart may
+/// have several such runs: the first is meant.
 fn run_at(numbers: &[i16], p: Point) -> &[i16] {
     let there = |i: usize| record_of(&numbers[5 * i..]).dominating == p;
     let records = numbers.len() / 5;
@@ -72,8 +74,8 @@ fn run_at(numbers: &[i16], p: Point) -> &[i16] {
     &numbers[5 * start..5 * end]
 }
 
-/// "Five numbers, from the second only if its head comes strictly earlier or the first has fewer than five numbers left; an
-/// empty part when both have."
+/// "Five numbers, from the second only if its head comes strictly earlier or the first has fewer than five numbers
+/// left; an empty part when both have."
 fn smaller_head<'a>(a: &'a [i16], b: &'a [i16]) -> &'a [i16] {
     match (a.len() >= 5, b.len() >= 5) {
         (false, false) => &[],
@@ -238,7 +240,10 @@ fn main() {
                 continue;
             }
             failed += 1;
-            println!("{}: a {:?} ({}), b {:?} ({}), p {:?}: want {want:?}, got {got:?}", q.letter as char, q.a, q.m, q.b, q.n, q.p);
+            println!(
+                "{}: a {:?} ({}), b {:?} ({}), p {:?}: want {want:?}, got {got:?}",
+                q.letter as char, q.a, q.m, q.b, q.n, q.p
+            );
             break;
         }
         if !rest.is_empty() && failed == 0 {

@@ -1,6 +1,6 @@
 #!/usr/bin/env bash
-# Builds the judge of judge.rs and has it ask the proved library, through the program probe, questions with a fixed seed.
-# Any number of questions by hand: tests/judge.sh QUESTIONS SEED
+# Builds the judge of judge.rs and has it ask the proved library, through the program probe, questions with a fixed
+# seed. Any number of questions by hand: tests/judge.sh QUESTIONS SEED
 set -u
 cd "$(dirname "$0")/.." || exit 2
 [ -x target/bin/probe ] || rt check probe > /dev/null || exit 1

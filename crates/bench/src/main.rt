@@ -1,5 +1,5 @@
-// Document 01's bench examples that are run, and the edges of the grid: what the library answers, one line each. The gate
-// compares the lines with the file stdout.
+// Document 01's bench examples that are run, and the edges of the grid: what the library answers, one line each. The
+// gate compares the lines with the file stdout.
 use grid::Coord;
 use grid::Located;
 use grid::Turn;
@@ -107,8 +107,8 @@ fn say_turn(text: &[u8], p: Point, q: Point, r: Point) {
     }
 }
 
-// The corners of the grid. A product here reaches 65,535 squared: in signed 32 bits the first line would say right, and the
-// sums of the third pass unsigned 32 bits, where it would say right too.
+// The corners of the grid. A product here reaches 65,535 squared: in signed 32 bits the first line would say right, and
+// the sums of the third pass unsigned 32 bits, where it would say right too.
 fn turns() {
     let sw = point_of(-32768, -32768);
     let se = point_of(32767, -32768);

@@ -49,15 +49,22 @@ module _ {A : Type 0} (lt : A → A → Type 0) where
     unfolding sum
     single (y ∷ ys) a x m = go (List·Memᴰ·cases-cons m) (λ k. single ys (a .1) x k)
       where
-        go : (x ≡ y) ⊎ (x ∈ ys) → (x ∈ ys → count (λ z. same z x) ys ≤ 1) → ind (same y x) + count (λ z. same z x) ys ≤ 1
+        go : (x ≡ y) ⊎ (x ∈ ys) → (x ∈ ys → count (λ z. same z x) ys ≤ 1)
+            → ind (same y x) + count (λ z. same z x) ys ≤ 1
         go (inl e) ih =
-            let off = count-off (λ z. same z x) ys (λ z k. is-false _ (λ t. irrefl y (subst (lt y) (same-true z x t ∙ e) (a .0 z k)))) in
+            let off = count-off (λ z. same z x) ys
+            (λ z k. is-false _ (λ t. irrefl y (subst (lt y) (same-true z x t ∙ e) (a .0 z k)))) in
             omega (arith, ind-le (same y x))
         go (inr k) ih =
             let off = is-false (same y x) (λ t. irrefl y (subst (lt y) (sym (same-true y x t)) (a .0 x k))) in
             omega (arith, ih k, ap ind off)
 
-    pub once : (same-refl : (x : A) → same x x ≡ true) (f : A → A) (xs : List A) → Ascending xs → ((x : A) → x ∈ xs → f x ∈ xs)
+    pub once : (same-refl : (x : A) → same x x ≡ true) (f : A → A) (xs : List A)
+        → Ascending xs → ((x : A) → x ∈ xs → f x ∈ xs)
         → (x : A) → x ∈ xs → count (λ y. same y (f x)) xs ≡ 1
     once same-refl f xs a closed x m =
-        omega (arith, single xs a (f x) (closed x m), count-some (λ y. same y (f x)) xs (f x) (closed x m) (same-refl (f x)))
+        omega (
+          arith,
+          single xs a (f x) (closed x m),
+          count-some (λ y. same y (f x)) xs (f x) (closed x m) (same-refl (f x)),
+        )

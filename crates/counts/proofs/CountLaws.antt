@@ -1,6 +1,7 @@
 -- Laws of `count`, `keep`, `all`, `any` and `odd` over any list and any test.
 --     count-ext, count-off, count-some, count-le       by the members
---     count-append, count-split, count-most            of two lists, of one cut at an index, and no more than the length
+--     count-append, count-split, count-most            of two lists, of one cut at an index,
+--                                                      and no more than the length
 --     count-keep, keep-mem, mem-keep                   counts under a filter
 --     all-is, any-is                                   the tests are what they say
 --     odd-plus, odd-add, odd-less, odd-same            parities of sums
@@ -8,7 +9,8 @@
 use mathlib.Core.Path.{_≡_, refl, sym, ap, _∙_, subst}
 use mathlib.Core.Logic.{_⊎_, inl, inr, _↔_}
 use mathlib.Core.Bool.{Bool, true, false, _&&_, _||_, cond, true≢false}
-use mathlib.Core.List.{List, [], _∷_, _++_, List·Memᴰ, List·Memᴰ·head, List·Memᴰ·tail, List·Memᴰ·not-nil, List·Memᴰ·cases-cons}
+use mathlib.Core.List.{List, [], _∷_, _++_, List·Memᴰ}
+use mathlib.Core.List.{List·Memᴰ·head, List·Memᴰ·tail, List·Memᴰ·not-nil, List·Memᴰ·cases-cons}
 use Prim.Native.Nat.{ℕ, _+_, _%_, _<_, _≤_}
 use lib.Dec.{eqb}
 use lib.ListN.{length, take, drop, take-append-drop}
@@ -105,14 +107,16 @@ module _ {A : Type 0} where
   all-is p [] = ((λ e x m. absurd (List·Memᴰ·not-nil m)), (λ h. refl))
   all-is p (y ∷ ys) = let ih = all-is p ys in (to ih, from ih)
     where
-      to : (all p ys ≡ true) ↔ ((x : A) → x ∈ ys → p x ≡ true) → p y && all p ys ≡ true → (x : A) → x ∈ y ∷ ys → p x ≡ true
+      to : (all p ys ≡ true) ↔ ((x : A) → x ∈ ys → p x ≡ true)
+          → p y && all p ys ≡ true → (x : A) → x ∈ y ∷ ys → p x ≡ true
       to ih e x m = go (and-true _ _ e) (List·Memᴰ·cases-cons m)
         where
           go : (p y ≡ true) × (all p ys ≡ true) → (x ≡ y) ⊎ (x ∈ ys) → p x ≡ true
           go h (inl g) = ap p g ∙ h .0
           go h (inr k) = ih .0 (h .1) x k
 
-      from : (all p ys ≡ true) ↔ ((x : A) → x ∈ ys → p x ≡ true) → ((x : A) → x ∈ y ∷ ys → p x ≡ true) → p y && all p ys ≡ true
+      from : (all p ys ≡ true) ↔ ((x : A) → x ∈ ys → p x ≡ true)
+          → ((x : A) → x ∈ y ∷ ys → p x ≡ true) → p y && all p ys ≡ true
       from ih h = rw (h y (List·Memᴰ·head refl)) (ih .1 (λ x m. h x (List·Memᴰ·tail m)))
 
   pub any-is : (p : A → Bool) (xs : List A) → (any p xs ≡ true) ↔ (0 < count p xs)

@@ -1,6 +1,7 @@
 -- Counting by fibres, and along an involution.
 --     even-mul       a multiple of an even number is even
---     even-fibres    where every point has an even number of the members over it, an even number lie over any set of points
+--     even-fibres    where every point has an even number of the members over it, an even number lie over any set
+--                    of points
 --     involution     a sum over a list in which the image of each member under f, its own inverse, occurs once, may be
 --                    taken at the images instead (`once` of AscendingLaws.antt gets that from a list in strict order
 --                    that is closed under f)
@@ -26,8 +27,9 @@ module _ {P : Type 0} (same : P → P → Bool) where
   among [] p = false
   among (d ∷ ds) p = same d p || among ds p
 
-  module _ (same-true : (p q : P) → same p q ≡ true → p ≡ q) (same-refl : (p : P) → same p p ≡ true) {A : Type 0} (over : A → P)
-      (xs : List A) (even : (d : P) → Even (count (λ r. same d (over r)) xs)) (t : P → Bool) where
+  module _ (same-true : (p q : P) → same p q ≡ true → p ≡ q) (same-refl : (p : P) → same p p ≡ true)
+      {A : Type 0} (over : A → P) (xs : List A) (even : (d : P) → Even (count (λ r. same d (over r)) xs))
+      (t : P → Bool) where
     split : (m q : Bool) → ind q ≡ ind (m && q) + ind (not m && q) * 1
     split true true = refl
     split true false = refl
@@ -36,7 +38,8 @@ module _ {P : Type 0} (same : P → P → Bool) where
 
     -- one point more adds its whole fibre, unless it was there
     one-more : (d : P) (ds : List P) (p : P)
-        → ind ((same d p || among ds p) && t p) ≡ ind (among ds p && t p) + ind (not (among ds d) && t d) * ind (same d p)
+        → ind ((same d p || among ds p) && t p)
+        ≡ ind (among ds p && t p) + ind (not (among ds d) && t d) * ind (same d p)
     one-more d ds p = go (same d p) refl
       where
         go : (b : Bool) → same d p ≡ b
@@ -89,7 +92,8 @@ module _ {A : Type 0} (same : A → A → Bool) (same-true : (x y : A) → same 
   -- each member weighed with its image, which is there once
   weigh : (w : A → ℕ) → sum w xs ≡ sum (λ x. sum (λ y. w x * ind (same y (f x))) xs) xs
   weigh w =
-      sum-ext _ _ xs (λ x m. sym (sum-mul (w x) (λ y. ind (same y (f x))) xs ∙ ap (λ n. w x * n) (once x m) ∙ omega arith))
+      sum-ext _ _ xs
+      (λ x m. sym (sum-mul (w x) (λ y. ind (same y (f x))) xs ∙ ap (λ n. w x * n) (once x m) ∙ omega arith))
 
   pub involution : sum p xs ≡ sum (λ x. p (f x)) xs
   involution =

@@ -7,7 +7,8 @@
 use mathlib.Core.Path.{_≡_, refl, sym, ap, _∙_}
 use mathlib.Core.Logic.{_⊎_, inl, inr, _↔_}
 use mathlib.Core.Bool.{Bool, true, false, cond, true≢false}
-use mathlib.Core.List.{List, [], _∷_, _++_, List·Memᴰ, List·Memᴰ·head, List·Memᴰ·tail, List·Memᴰ·not-nil, List·Memᴰ·cases-cons}
+use mathlib.Core.List.{List, [], _∷_, _++_, List·Memᴰ}
+use mathlib.Core.List.{List·Memᴰ·head, List·Memᴰ·tail, List·Memᴰ·not-nil, List·Memᴰ·cases-cons}
 use Prim.Native.Nat.{ℕ, zero, suc, _+_, _-_, _<_, _≤_}
 use native.Mathlib.Nat.{add-zero, eq-or-lt-of-le}
 use native.Mathlib.Omega.{arith}
@@ -30,7 +31,8 @@ module _ {A : Type 0} (p : A → Bool) (d : A) where
   firstIndex-passes (x ∷ xs) l = go (p x) refl (λ h. firstIndex-passes xs h) l
     where
       go : (b : Bool) → p x ≡ b → (firstIndex p xs < length xs → p (getD xs (firstIndex p xs) d) ≡ true)
-          → cond b 0 (suc (firstIndex p xs)) < length (x ∷ xs) → p (getD (x ∷ xs) (cond b 0 (suc (firstIndex p xs))) d) ≡ true
+          → cond b 0 (suc (firstIndex p xs)) < length (x ∷ xs)
+          → p (getD (x ∷ xs) (cond b 0 (suc (firstIndex p xs))) d) ≡ true
       go true e ih h = e
       go false e ih h = ih (omega arith)
 
@@ -53,7 +55,8 @@ module _ {A : Type 0} (p : A → Bool) (d : A) where
     where
       go : (i : ℕ) (b : Bool) → p x ≡ b → i < length (x ∷ xs) → p (getD (x ∷ xs) i d) ≡ true
           → ((j : ℕ) → j < i → p (getD (x ∷ xs) j d) ≡ false)
-          → ((j : ℕ) → j < length xs → p (getD xs j d) ≡ true → ((k : ℕ) → k < j → p (getD xs k d) ≡ false) → j ≡ firstIndex p xs)
+          → ((j : ℕ) → j < length xs → p (getD xs j d) ≡ true
+          → ((k : ℕ) → k < j → p (getD xs k d) ≡ false) → j ≡ firstIndex p xs)
           → i ≡ cond b 0 (suc (firstIndex p xs))
       go zero true e l t h ih = refl
       go zero false e l t h ih = absurd (true≢false (sym t ∙ e))
@@ -69,7 +72,8 @@ module _ {A : Type 0} (p : A → Bool) (d : A) where
           → cond (p y) 0 (suc (firstIndex p ys)) ≡ length (y ∷ ys) → (x : A) → x ∈ y ∷ ys → p x ≡ false
       to ih e x m = go (p y) refl e (List·Memᴰ·cases-cons m)
         where
-          go : (b : Bool) → p y ≡ b → cond b 0 (suc (firstIndex p ys)) ≡ length (y ∷ ys) → (x ≡ y) ⊎ (x ∈ ys) → p x ≡ false
+          go : (b : Bool) → p y ≡ b → cond b 0 (suc (firstIndex p ys)) ≡ length (y ∷ ys) → (x ≡ y) ⊎ (x ∈ ys)
+              → p x ≡ false
           go true g e h = absurd (omega arith)
           go false g e (inl h) = ap p h ∙ g
           go false g e (inr k) = ih .0 (omega arith) x k
@@ -84,7 +88,8 @@ module _ {A : Type 0} (f : ℕ → A) where
   pub listed-snoc : (a k : ℕ) → listed f a (suc k) ≡ listed f a k ++ (f (a + k) ∷ [])
   unfolding listed
   listed-snoc a zero = rw add-zero
-  listed-snoc a (suc k) = ap (λ l. f a ∷ l) (listed-snoc (suc a) k ∙ ap (λ n. listed f (suc a) k ++ (f n ∷ [])) (omega arith))
+  listed-snoc a (suc k) =
+      ap (λ l. f a ∷ l) (listed-snoc (suc a) k ∙ ap (λ n. listed f (suc a) k ++ (f n ∷ [])) (omega arith))
 
   pub listed-length : (a k : ℕ) → length (listed f a k) ≡ k
   unfolding listed

@@ -6,7 +6,8 @@
 use mathlib.Core.Path.{_≡_, refl, sym, ap, _∙_, subst}
 use mathlib.Core.Logic.{_⊎_, inl, inr}
 use mathlib.Core.Bool.{Bool, true, false, true≢false}
-use mathlib.Core.List.{List, [], _∷_, List·Memᴰ, List·Memᴰ·head, List·Memᴰ·tail, List·Memᴰ·not-nil, List·Memᴰ·cases-cons}
+use mathlib.Core.List.{List, [], _∷_, List·Memᴰ}
+use mathlib.Core.List.{List·Memᴰ·head, List·Memᴰ·tail, List·Memᴰ·not-nil, List·Memᴰ·cases-cons}
 use Prim.Native.Nat.{ℕ, _<_, _≤_}
 use native.Mathlib.Omega.{arith}
 use Rattle.counts.specs.Count.{_∈_, ind, sum, count}
@@ -39,7 +40,8 @@ module _ {A : Type 0} where
         it = y;
         member = List·Memᴰ·head refl;
         passes = e;
-        greatest = on-cons {Q = λ x. p x ≡ true → key x ≤ key y} y ys (λ _. omega arith) (λ x k h. omega (arith, t .greatest x k h));
+        greatest = on-cons {Q = λ x. p x ≡ true → key x ≤ key y} y ys (λ _. omega arith)
+            (λ x k h. omega (arith, t .greatest x k h));
       }
       pick e t (inr l) = record {
         it = t .it;
@@ -54,7 +56,8 @@ module _ {A : Type 0} where
         it = y;
         member = List·Memᴰ·head refl;
         passes = e;
-        greatest = on-cons {Q = λ x. p x ≡ true → key x ≤ key y} y ys (λ _. omega arith) (λ x k h. absurd (true≢false (sym h ∙ none x k)));
+        greatest = on-cons {Q = λ x. p x ≡ true → key x ≤ key y} y ys (λ _. omega arith)
+            (λ x k h. absurd (true≢false (sym h ∙ none x k)));
       })
       go true e (inr t) = inr (pick e t (lt-or-le (key (t .it)) (key y)))
       go false e (inl none) = inl (on-cons {Q = λ x. p x ≡ false} y ys e none)
@@ -62,7 +65,8 @@ module _ {A : Type 0} where
         it = t .it;
         member = List·Memᴰ·tail (t .member);
         passes = t .passes;
-        greatest = on-cons {Q = λ x. p x ≡ true → key x ≤ key (t .it)} y ys (λ h. absurd (true≢false (sym h ∙ e))) (t .greatest);
+        greatest = on-cons {Q = λ x. p x ≡ true → key x ≤ key (t .it)} y ys
+            (λ h. absurd (true≢false (sym h ∙ e))) (t .greatest);
       })
 
   pub at-most-one : (p : A → Bool) (same : A → A → Bool) (same-refl : (x : A) → same x x ≡ true) (xs : List A)
@@ -72,7 +76,12 @@ module _ {A : Type 0} where
     where
       go : ((x : A) → x ∈ xs → p x ≡ false) ⊎ Top p (λ x. 0) xs → count p xs ≤ 1
       go (inl none) = omega (arith, count-off p xs none)
-      go (inr t) = omega (arith, single (t .it) (t .member), sum-le (λ x. ind (p x)) (λ x. ind (same x (t .it))) xs (λ x k. at x k (p x) refl))
+      go (inr t) =
+          omega (
+            arith,
+            single (t .it) (t .member),
+            sum-le (λ x. ind (p x)) (λ x. ind (same x (t .it))) xs (λ x k. at x k (p x) refl),
+          )
         where
           at : (x : A) → x ∈ xs → (b : Bool) → p x ≡ b → ind b ≤ ind (same x (t .it))
           at x k true e = rw (one x (t .it) k (t .member) e (t .passes), same-refl) (omega arith)

@@ -1,4 +1,5 @@
--- What a loop that looks for the first, or counts, holds on its way, and the laws that keep it: for any test p and any f.
+-- What a loop that looks for the first, or counts, holds on its way, and the laws that keep it:
+-- for any test p and any f.
 --     firstFrom-low, -high, -passes, -fails    its range, and what stands at the first place, and before it
 --     Seen p f a n i      from a up to i none passed, so the first from i on is the first from a on
 --     `Counted p f i m` of specs/Scan.antt is what a loop that counts holds at i
@@ -116,7 +117,8 @@ module _ {A : Type 0} (p : A → Bool) (f : ℕ → A) where
   unfolding sum listed
   counted-none = record { is = refl; most = omega arith }
 
-  pub counted-yes : {i m k : ℕ} {b : Bool} → Counted p f i m → b ≡ p (f i) → b ≡ true → k ≡ m + 1 → Counted p f (i + 1) k
+  pub counted-yes : {i m k : ℕ} {b : Bool} → Counted p f i m → b ≡ p (f i) → b ≡ true → k ≡ m + 1
+      → Counted p f (i + 1) k
   counted-yes {i} {m} {k} s e t h =
       record { is = omega (arith, s .is, count-more i, ap ind (sym e ∙ t)); most = omega (arith, s .most) }
 

@@ -1,5 +1,5 @@
--- The telescope: items with keys, sets among them, and f on the sets' parities. An item is kept if f changes as it is passed,
--- from below it to at or below it. Then every cut keeps an odd number exactly where f holds of the cut.
+-- The telescope: items with keys, sets among them, and f on the sets' parities. An item is kept if f changes as it is
+-- passed, from below it to at or below it. Then every cut keeps an odd number exactly where f holds of the cut.
 --     parities K         of each set, whether an odd number of its items lie below K
 --     kept x             f of the parities changes as x is passed
 --     telescope          for the cut of all keys below K, where the keys differ
@@ -40,16 +40,23 @@ module _ {A : Type 0} (xs : List A) (on : A → Bool) (key : A → ℕ) where
     where
       go : (x : A) (b : Bool) → Side (key x) K
           → ind (b && ltb (key x) (suc K) && w x) ≡ ind (b && ltb (key x) K && w x) + ind (b && eqb (key x) K && w x)
-      go x true (less h) = simp (lt-ltb (key x) (suc K) (omega arith), lt-ltb _ _ h, ne-eqb (key x) K (omega arith)) (omega arith)
-      go x true (equal h) = simp (lt-ltb (key x) (suc K) (omega arith), le-ltb (key x) K (omega arith), eq-eqb _ _ h) (omega arith)
-      go x true (more h) = simp (le-ltb (key x) (suc K) h, le-ltb (key x) K (omega arith), ne-eqb (key x) K (omega arith))
+      go x true (less h) =
+          simp (lt-ltb (key x) (suc K) (omega arith), lt-ltb _ _ h, ne-eqb (key x) K (omega arith)) (omega arith)
+      go x true (equal h) =
+          simp (lt-ltb (key x) (suc K) (omega arith), le-ltb (key x) K (omega arith), eq-eqb _ _ h) (omega arith)
+      go x true (more h) =
+          simp (le-ltb (key x) (suc K) h, le-ltb (key x) K (omega arith), ne-eqb (key x) K (omega arith))
       go x false s = refl
 
   -- where no item has the key K, passing it changes no count
   no-key : (K : ℕ) → count (λ x. on x && eqb (key x) K) xs ≡ 0 → (w : A → Bool)
       → count (λ x. on x && ltb (key x) (suc K) && w x) xs ≡ count (λ x. on x && ltb (key x) K && w x) xs
   no-key K e w =
-      omega (arith, one-key K w, count-le (λ x. on x && eqb (key x) K && w x) (λ x. on x && eqb (key x) K) xs (λ x m h. and-true _ _ h .0))
+      omega (
+        arith,
+        one-key K w,
+        count-le (λ x. on x && eqb (key x) K && w x) (λ x. on x && eqb (key x) K) xs (λ x m h. and-true _ _ h .0),
+      )
 
   -- ---- the parities, and what f makes of them
 
@@ -64,7 +71,8 @@ module _ {A : Type 0} (xs : List A) (on : A → Bool) (key : A → ℕ) where
     parities-same K e = fun-ext (λ j. ap odd (no-key K e (has j)))
 
     pub carried : (Q : (J → Bool) → Type 0) → Q (λ j. false)
-        → ((x : A) → x ∈ xs → on x ≡ true → Q (parities (key x)) → Q (parities (suc (key x)))) → (K : ℕ) → Q (parities K)
+        → ((x : A) → x ∈ xs → on x ≡ true → Q (parities (key x)) → Q (parities (suc (key x))))
+        → (K : ℕ) → Q (parities K)
     carried Q start step zero = subst Q (sym parities-none) start
     carried Q start step (suc K) = go (highest (λ x. on x && eqb (key x) K) (λ x. 0) xs) (carried Q start step K)
       where
@@ -74,7 +82,8 @@ module _ {A : Type 0} (xs : List A) (on : A → Bool) (key : A → ℕ) where
         go (inr t) q =
             let h = and-true _ _ (t .passes) in
             let e = eqb-true _ _ (h .1) in
-            subst (λ k. Q (parities (suc k))) e (step (t .it) (t .member) (h .0) (subst (λ k. Q (parities k)) (sym e) q))
+            subst (λ k. Q (parities (suc k))) e
+            (step (t .it) (t .member) (h .0) (subst (λ k. Q (parities k)) (sym e) q))
 
     module _ (f : (J → Bool) → Bool) where
       abbrev pub kept : A → Bool
@@ -128,7 +137,8 @@ module _ {A : Type 0} (xs : List A) (on : A → Bool) (key : A → ℕ) where
             never false e = refl
         go (inr t) = (suc (key (t .it)), λ x m. cases x m (on x) (D x) (ltb (key x) (suc (key (t .it)))) refl refl refl)
           where
-            cases : (x : A) → x ∈ xs → (a b c : Bool) → on x ≡ a → D x ≡ b → ltb (key x) (suc (key (t .it))) ≡ c → a && b ≡ a && c
+            cases : (x : A) → x ∈ xs → (a b c : Bool) → on x ≡ a → D x ≡ b → ltb (key x) (suc (key (t .it))) ≡ c
+                → a && b ≡ a && c
             cases x m true true true p q r = refl
             cases x m true true false p q r =
                 absurd (omega (arith, ltb-false (key x) (suc (key (t .it))) r, t .greatest x m (ap₂ _&&_ p q)))
@@ -140,7 +150,8 @@ module _ {A : Type 0} (xs : List A) (on : A → Bool) (key : A → ℕ) where
             cases x m false b c p q r = refl
 
     -- what is counted in the cut is what is counted below its level
-    in-cut : (w : A → Bool) → count (λ x. on x && D x && w x) xs ≡ count (λ x. on x && ltb (key x) (cut-level .0) && w x) xs
+    in-cut : (w : A → Bool)
+        → count (λ x. on x && D x && w x) xs ≡ count (λ x. on x && ltb (key x) (cut-level .0) && w x) xs
     in-cut w = count-ext _ _ xs (λ x m. ap (λ b. b && w x) (cut-level .1 x m))
 
     module _ {J : Type 0} (has : J → A → Bool) where

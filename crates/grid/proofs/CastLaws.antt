@@ -1,5 +1,5 @@
--- What the casts, the sum and the difference of `count_of` and `number_at` ask, as the language states them: a signed value
--- goes through its bits, `toZ w (ofZ w z)`. Here it is brought back to the number once.
+-- What the casts, the sum and the difference of `count_of` and `number_at` ask, as the language states them: a signed
+-- value goes through its bits, `toZ w (ofZ w z)`. Here it is brought back to the number once.
 --     widened-fits, sum-fits, count-is              up: a number, widened, and 32,768 more
 --     difference-fits, narrowed-fits, number-is     down: a count, widened, and 32,768 less
 -- The sum and the difference fit at any step k, so that a wrong step is refused for what it answers.

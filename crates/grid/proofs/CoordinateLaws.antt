@@ -22,7 +22,9 @@ use Rattle.grid.specs.Coordinates.{onGrid, located, up, down}
 use Rattle.grid.specs.declared.Located.the-variants.{On, Off}
 
 leb-not : (m n : ℕ) → leb m n ≡ not (ltb n m)
-leb-not m n = ⊎-elim (λ l. lt-leb m n l ∙ ap not (sym (lt-ltb n m l))) (λ l. le-leb m n l ∙ ap not (sym (le-ltb n m l))) (lt-or-le n m)
+leb-not m n =
+    ⊎-elim (λ l. lt-leb m n l ∙ ap not (sym (lt-ltb n m l))) (λ l. le-leb m n l ∙ ap not (sym (le-ltb n m l)))
+    (lt-or-le n m)
 
 pub onGrid-fits : (z : ℤ) → onGrid z ≡ true → mag z < 32768
 onGrid-fits (pos n) e = omega (arith, leb-true n 32767 e)
@@ -109,11 +111,13 @@ module _ (y z : ℤ) (hy : mag y < 32768) (hz : mag z < 32768) where
     where
       go : (y z : ℤ) → mag y < 32768 → mag z < 32768 → ltb (up y) (up z) ≡ ltZ y z
       go (pos m) (pos n) hy hz =
-          same-test (ltb (m + 32768) (n + 32768)) (ltb m n) (λ e. lt-ltb m n (omega (arith, tests))) (λ e. lt-ltb (m + 32768) (n + 32768) (omega (arith, tests)))
+          same-test (ltb (m + 32768) (n + 32768)) (ltb m n) (λ e. lt-ltb m n (omega (arith, tests)))
+          (λ e. lt-ltb (m + 32768) (n + 32768) (omega (arith, tests)))
       go (pos m) (negsuc n) hy hz = le-ltb (m + 32768) (32767 - n) (omega arith)
       go (negsuc m) (pos n) hy hz = lt-ltb (32767 - m) (n + 32768) (omega arith)
       go (negsuc m) (negsuc n) hy hz =
-          same-test (ltb (32767 - m) (32767 - n)) (ltb n m) (λ e. lt-ltb n m (omega (arith, tests))) (λ e. lt-ltb (32767 - m) (32767 - n) (omega (arith, tests)))
+          same-test (ltb (32767 - m) (32767 - n)) (ltb n m) (λ e. lt-ltb n m (omega (arith, tests)))
+          (λ e. lt-ltb (32767 - m) (32767 - n) (omega (arith, tests)))
 
   pub up-difference : pos (up y) -ℤ pos (up z) ≡ y -ℤ z
   up-difference =

@@ -50,8 +50,10 @@ module _ (x y u v : ℤ) (p : GridPoint x y) (q : GridPoint u v) where
     where
       to : same (pointOf x y) (pointOf u v) ≡ true → (x ≡ u) × (y ≡ v)
       to e =
-          let one = same-true (pointOf x y) (pointOf u v) e in
-          (up-one x u (p .across) (q .across) (ap (λ (r : Point). r .x) one), up-one y v (p .upward) (q .upward) (ap (λ (r : Point). r .y) one))
+          let one = same-true (pointOf x y) (pointOf u v) e in (
+            up-one x u (p .across) (q .across) (ap (λ (r : Point). r .x) one),
+            up-one y v (p .upward) (q .upward) (ap (λ (r : Point). r .y) one),
+          )
 
       from : (x ≡ u) × (y ≡ v) → same (pointOf x y) (pointOf u v) ≡ true
       from h = ap₂ (λ a b. same (pointOf x y) (pointOf a b)) (sym (h .0)) (sym (h .1)) ∙ same-refl (pointOf x y)
@@ -63,7 +65,8 @@ module _ (x y u v : ℤ) (p : GridPoint x y) (q : GridPoint u v) where
       λ i. record { across = a i; up = b i }
 
 pub turnsLeft-signed : (x y u v w z : ℤ) → GridPoint x y → GridPoint u v → GridPoint w z
-    → turnsLeft (pointOf x y) (pointOf u v) (pointOf w z) ≡ ltZ (pos 0) (determinant (signedWay x y u v) (signedWay x y w z))
+    → turnsLeft (pointOf x y) (pointOf u v) (pointOf w z)
+    ≡ ltZ (pos 0) (determinant (signedWay x y u v) (signedWay x y w z))
 turnsLeft-signed x y u v w z p q r =
     turnsLeft-is (pointOf x y) (pointOf u v) (pointOf w z)
     ∙ ap₂ (λ a b. ltZ (pos 0) (determinant a b)) (direction-signed x y u v p q) (direction-signed x y w z p r)

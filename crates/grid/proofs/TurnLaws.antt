@@ -25,7 +25,8 @@ module _ (p q r : Point) {m n : ℕ} (em : m ≡ minus p q r) (en : n ≡ plus p
 
   pub turnOf-straight : n ≤ m → m ≤ n → Straight ≡ turnOf p q r
   unfolding turnOf turnsLeft turnsRight
-  turnOf-straight l h = rw (le-ltb (minus p q r) (plus p q r) (omega arith), le-ltb (plus p q r) (minus p q r) (omega arith))
+  turnOf-straight l h =
+      rw (le-ltb (minus p q r) (plus p q r) (omega arith), le-ltb (plus p q r) (minus p q r) (omega arith))
 
 -- ---- what each answer says
 
@@ -43,19 +44,25 @@ module _ (p q r : Point) where
   unfolding turnOf turnsLeft turnsRight straight
   right-is = go (ltb (minus p q r) (plus p q r)) (ltb (plus p q r) (minus p q r)) refl refl
     where
-      go : (a b : Bool) → ltb (minus p q r) (plus p q r) ≡ a → ltb (plus p q r) (minus p q r) ≡ b → cond a Left (cond b Right Straight) ≡ Right
+      go : (a b : Bool) → ltb (minus p q r) (plus p q r) ≡ a → ltb (plus p q r) (minus p q r) ≡ b
+          → cond a Left (cond b Right Straight) ≡ Right
           → (a ≡ false) × (eqb (minus p q r) (plus p q r) ≡ false)
       go true b h g e = let z : _≡_ {A = ℕ} 0 1 = cc in absurd (omega arith)
-      go false true h g e = (refl, ne-eqb (minus p q r) (plus p q r) (omega (arith, ltb-true (plus p q r) (minus p q r) g)))
+      go false true h g e =
+          (refl, ne-eqb (minus p q r) (plus p q r) (omega (arith, ltb-true (plus p q r) (minus p q r) g)))
       go false false h g e = let z : _≡_ {A = ℕ} 0 1 = cc in absurd (omega arith)
 
   pub straight-is : turnOf p q r ≡ Straight → (turnsLeft p q r ≡ false) × (straight p q r ≡ true)
   unfolding turnOf turnsLeft turnsRight straight
   straight-is = go (ltb (minus p q r) (plus p q r)) (ltb (plus p q r) (minus p q r)) refl refl
     where
-      go : (a b : Bool) → ltb (minus p q r) (plus p q r) ≡ a → ltb (plus p q r) (minus p q r) ≡ b → cond a Left (cond b Right Straight) ≡ Straight
+      go : (a b : Bool) → ltb (minus p q r) (plus p q r) ≡ a → ltb (plus p q r) (minus p q r) ≡ b
+          → cond a Left (cond b Right Straight) ≡ Straight
           → (a ≡ false) × (eqb (minus p q r) (plus p q r) ≡ true)
       go true b h g e = let z : _≡_ {A = ℕ} 0 1 = cc in absurd (omega arith)
       go false true h g e = let z : _≡_ {A = ℕ} 0 1 = cc in absurd (omega arith)
-      go false false h g e =
-          (refl, eq-eqb (minus p q r) (plus p q r) (omega (arith, ltb-false (minus p q r) (plus p q r) h, ltb-false (plus p q r) (minus p q r) g)))
+      go false false h g e = (
+        refl,
+        eq-eqb (minus p q r) (plus p q r)
+            (omega (arith, ltb-false (minus p q r) (plus p q r) h, ltb-false (plus p q r) (minus p q r) g)),
+      )

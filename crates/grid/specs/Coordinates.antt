@@ -7,8 +7,9 @@
 --     up z          how far z lies above the lower end: -32,768 is 0 and 32,767 is 65,535
 --     down n        the way back, for a count below 65,536
 --     pointOf x y   the point with these coordinates, counted
--- That each is the other's inverse, that `up` keeps the order and every difference are laws of proofs/CoordinateLaws.antt; so
--- points compare and turn as their signed coordinates do, by proofs/SignedLaws.antt. Assumes nothing.
+-- That each is the other's inverse, that `up` keeps the order and every difference are laws of
+-- proofs/CoordinateLaws.antt; so points compare and turn as their signed coordinates do, by proofs/SignedLaws.antt.
+-- Assumes nothing.
 use mathlib.Core.Bool.{Bool, true, false, cond, _&&_}
 use Prim.Native.Nat.{ℕ, _+_, _-_}
 use lib.IntN.{ℤ, pos, negsuc, _-ℤ_}

@@ -1,4 +1,5 @@
-// The grid: the coordinate type, its count from the grid's lower end and the way back, the order of two points, the turn of three.
+// The grid: the coordinate type, its count from the grid's lower end and the way back, the order of two points, the
+// turn of three.
 ghost use mathlib.Core.Path.{_≡_};
 ghost use Rattle.plane.specs.Points.{before, same};
 ghost use Rattle.plane.specs.Turns.{plus, minus};

@@ -1,4 +1,5 @@
--- Laws of `height`: at the ends of a segment, what equal or exchanged heights of two segments mean, and where a point lies.
+-- Laws of `height`: at the ends of a segment, what equal or exchanged heights of two segments mean, and where a point
+-- lies.
 --     height-a, height-b        at its own ends a segment is as high as they are
 --     touch-level, touch-cross  level inside one of them, or in the other order at another column: they touch
 --     touch-upright             a vertical segment across the inside of another touches it
@@ -8,7 +9,8 @@ use mathlib.Core.Path.{_≡_, refl, sym, ap, ap₂, _∙_}
 use mathlib.Core.Logic.{_⊎_, inl, inr}
 use mathlib.Core.Bool.{Bool}
 use Prim.Native.Nat.{ℕ, _+_, _-_, _*_, _/_, _<_, _≤_}
-use native.Mathlib.Nat.{mul-pos, mul-lt-mul-of-pos-left, lt-of-mul-lt-mul-left, lt-of-lt-of-le, add-sub-of-le, le-of-lt, eq-zero-or-pos}
+use native.Mathlib.Nat.{mul-pos, mul-lt-mul-of-pos-left, lt-of-mul-lt-mul-left}
+use native.Mathlib.Nat.{lt-of-lt-of-le, add-sub-of-le, le-of-lt, eq-zero-or-pos}
 use native.Mathlib.Omega.{arith}
 use lib.Dec.{ltb, eqb}
 use borrow.Author.Tests.{lt-ltb, le-ltb, eq-eqb, ne-eqb}
@@ -67,7 +69,8 @@ module _ (w N A B P Q : ℕ) (hw : 0 < w) (hN : 0 < N) (e : w * A + N * P ≡ w 
 
 module _ (M : ℕ) (scale : Scale M) where
   -- a segment at a half column that it spans, in additive form
-  unfoldable read : (s : Segment) (k : ℕ) → Spans s k → Read s (2 * M) (2 * (s .b .x - s .a .x)) (M / (s .b .x - s .a .x)) k
+  unfoldable read : (s : Segment) (k : ℕ) → Spans s k
+      → Read s (2 * M) (2 * (s .b .x - s .a .x)) (M / (s .b .x - s .a .x)) k
   read s k h = record {
     i = k - 2 * s .a .x;
     j = 2 * s .b .x - k;
@@ -101,19 +104,23 @@ module _ (M : ℕ) (scale : Scale M) where
 
   touch-at : (s t : Segment) (p k u v : ℕ) → Spans s p → Spans s k → Spans t p → Spans t k
       → u * height M s p + v * height M s k ≡ u * height M t p + v * height M t k
-      → 0 < u * (2 * s .b .x - p) + v * (2 * s .b .x - k) → 0 < u * (p - 2 * s .a .x) + v * (k - 2 * s .a .x) → Touch s t
+      → 0 < u * (2 * s .b .x - p) + v * (2 * s .b .x - k)
+      → 0 < u * (p - 2 * s .a .x) + v * (k - 2 * s .a .x) → Touch s t
   unfolding height read
   touch-at s t p k u v sp sk tp tk e hj hi =
-      meet (read s p sp) (read s k sk) (read t p tp) (read t k tk) u v (omega (arith, scale .positive)) e (omega arith) (omega arith) hj hi
+      meet (read s p sp) (read s k sk) (read t p tp) (read t k tk) u v
+      (omega (arith, scale .positive)) e (omega arith) (omega arith) hj hi
 
-  pub touch-level : (s t : Segment) (k : ℕ) → Spans s k → Spans t k → Inside s k → height M s k ≡ height M t k → Touch s t
+  pub touch-level : (s t : Segment) (k : ℕ) → Spans s k → Spans t k → Inside s k → height M s k ≡ height M t k
+      → Touch s t
   touch-level s t k sk tk inside e = touch-at s t k k 0 1 sk sk tk tk (omega arith) (omega arith) (omega arith)
 
   pub touch-cross : (s t : Segment) (p k : ℕ) → Spans s p → Spans s k → Spans t p → Spans t k
       → height M t p < height M s p → height M s k < height M t k → Touch s t
   touch-cross s t p k sp sk tp tk lp lk =
       let w = change lp lk in
-      touch-at s t p k (w .0) (w .1) sp sk tp tk (w .4) (ahead (w .2) (w .3) (lt-or-le p k)) (behind (w .2) (w .3) (lt-or-le p k))
+      touch-at s t p k (w .0) (w .1) sp sk tp tk (w .4)
+      (ahead (w .2) (w .3) (lt-or-le p k)) (behind (w .2) (w .3) (lt-or-le p k))
     where
       apart : (k < p) ⊎ (p ≤ k) → k ≤ p → k < p
       apart (inl h) l = h
@@ -137,13 +144,16 @@ module _ (M : ℕ) (scale : Scale M) where
       go (inl z) = omega (arith, scale .positive, ap (λ n. n * w) z)
       go (inr h) = h
 
-  pub touch-upright : (s t : Segment) (c : ℕ) → Spans s (2 * c) → Inside s (2 * c) → t .a .x ≡ c → t .b .x ≡ c → t .a .y < t .b .y
+  pub touch-upright : (s t : Segment) (c : ℕ) → Spans s (2 * c) → Inside s (2 * c)
+      → t .a .x ≡ c → t .b .x ≡ c → t .a .y < t .b .y
       → 2 * M * t .a .y ≤ height M s (2 * c) → height M s (2 * c) ≤ 2 * M * t .b .y → Touch s t
   unfolding height read
   touch-upright s t c sp inside ea eb up l h =
       let S = read s (2 * c) sp in
-      meet-vertical S (omega (arith, scale .positive)) ea eb (t .b .y - t .a .y) (2 * M * t .b .y - level S) (level S - 2 * M * t .a .y)
-      (omega arith) (add-sub-of-le l) (add-sub-of-le h) (omega arith) (unit-pos _ _ (S .unit)) (omega arith) (omega arith)
+      meet-vertical S (omega (arith, scale .positive)) ea eb
+      (t .b .y - t .a .y) (2 * M * t .b .y - level S) (level S - 2 * M * t .a .y)
+      (omega arith) (add-sub-of-le l) (add-sub-of-le h)
+      (omega arith) (unit-pos _ _ (S .unit)) (omega arith) (omega arith)
 
   -- ---- where a point lies
 
@@ -153,14 +163,18 @@ module _ (M : ℕ) (scale : Scale M) where
       ≡ (s .b .x - s .a .x) * (2 * M * p .y) + 2 * M * minus (s .a) (s .b) p
   unfolding height
   at-point s p h =
-      go (s .b .x - s .a .x) (M / (s .b .x - s .a .x)) (2 * s .b .x - 2 * p .x) (2 * p .x - 2 * s .a .x) (p .x - s .a .x) (s .b .x - p .x)
-      (scale .divides _ (omega arith) (omega arith)) (omega arith) (omega arith) (omega arith) (omega arith) (omega arith)
+      go (s .b .x - s .a .x) (M / (s .b .x - s .a .x)) (2 * s .b .x - 2 * p .x) (2 * p .x - 2 * s .a .x)
+      (p .x - s .a .x) (s .b .x - p .x) (scale .divides _ (omega arith) (omega arith))
+      (omega arith) (omega arith) (omega arith) (omega arith) (omega arith)
     where
       -- p is i past a and j before b
-      go : (w q jj ii i j : ℕ) → q * w ≡ M → jj ≡ 2 * j → ii ≡ 2 * i → s .a .x + i ≡ p .x → p .x + j ≡ s .b .x → i + j ≡ w
-          → w * (q * (s .a .y * jj + s .b .y * ii)) + 2 * M * plus (s .a) (s .b) p ≡ w * (2 * M * p .y) + 2 * M * minus (s .a) (s .b) p
+      go : (w q jj ii i j : ℕ) → q * w ≡ M → jj ≡ 2 * j → ii ≡ 2 * i
+          → s .a .x + i ≡ p .x → p .x + j ≡ s .b .x → i + j ≡ w
+          → w * (q * (s .a .y * jj + s .b .y * ii)) + 2 * M * plus (s .a) (s .b) p
+          ≡ w * (2 * M * p .y) + 2 * M * minus (s .a) (s .b) p
       go w q jj ii i j e ej ei lo hi wide =
-          rw (ej, ei) (ap (λ n. n + 2 * M * plus (s .a) (s .b) p) (scaled (s .a .y * (2 * j) + s .b .y * (2 * i))) ∙ turned)
+          rw (ej, ei)
+          (ap (λ n. n + 2 * M * plus (s .a) (s .b) p) (scaled (s .a .y * (2 * j) + s .b .y * (2 * i))) ∙ turned)
         where
           scaled : (r : ℕ) → w * (q * r) ≡ M * r
           scaled r = omega (arith, ap (λ n. n * r) e)
@@ -176,10 +190,12 @@ module _ (M : ℕ) (scale : Scale M) where
                 ap (λ n. n * p .y) wide,
               )
 
-          turned : M * (s .a .y * (2 * j) + s .b .y * (2 * i)) + 2 * M * plus (s .a) (s .b) p ≡ w * (2 * M * p .y) + 2 * M * minus (s .a) (s .b) p
+          turned : M * (s .a .y * (2 * j) + s .b .y * (2 * i)) + 2 * M * plus (s .a) (s .b) p
+              ≡ w * (2 * M * p .y) + 2 * M * minus (s .a) (s .b) p
           turned = regroup (s .a .y) (s .b .y) (plus (s .a) (s .b) p) (minus (s .a) (s .b) p) (p .y) even
             where
-              regroup : (ay by P Q y : ℕ) → ay * j + by * i + P ≡ w * y + Q → M * (ay * (2 * j) + by * (2 * i)) + 2 * M * P ≡ w * (2 * M * y) + 2 * M * Q
+              regroup : (ay by P Q y : ℕ) → ay * j + by * i + P ≡ w * y + Q
+                  → M * (ay * (2 * j) + by * (2 * i)) + 2 * M * P ≡ w * (2 * M * y) + 2 * M * Q
               regroup ay by P Q y g = omega (arith, ap (λ n. 2 * M * n) g)
 
   module _ (s : Segment) (p : Point) (h : Spans s (2 * p .x)) where

@@ -1,5 +1,6 @@
 -- A common point of two segments from their heights: the arithmetic, in additive form.
---     Read s N w q p     s read at half column p: i past its left end, j before its right end, of width w, with q * w ≡ N
+--     Read s N w q p     s read at half column p: i past its left end, j before its right end, of width w,
+--                        with q * w ≡ N
 --     level r            N times the height there
 --     meet               two segments level in the mean of two half columns, by weights u and v, have a common point
 --     meet-vertical      a vertical segment from at or below another to at or above it has one
@@ -13,7 +14,8 @@ use Rattle.plane.specs.declared.Point.{Point}
 use Rattle.plane.specs.declared.Segment.{Segment}
 use Rattle.plane.specs.Touching.{Touch}
 
--- s read at half column p, which is i past its left end and j before its right end; w is its width in half columns, and q * w ≡ N
+-- s read at half column p, which is i past its left end and j before its right end; w is its width in half columns,
+-- and q * w ≡ N
 pub record Read (s : Segment) (N w q p : ℕ) : Type 0 where
   pub i : ℕ
   pub j : ℕ
@@ -30,13 +32,14 @@ module _ {s : Segment} {N w q p : ℕ} (r : Read s N w q p) where
   -- the column, from its weights
   pub read-x : r .j * (2 * s .a .x) + r .i * (2 * s .b .x) ≡ w * p
   read-x =
-      let e : r .j * (2 * s .a .x) + r .i * (2 * s .a .x + r .i + r .j) ≡ (r .i + r .j) * (2 * s .a .x + r .i) = omega arith in
+      let e : r .j * (2 * s .a .x) + r .i * (2 * s .a .x + r .i + r .j) ≡ (r .i + r .j) * (2 * s .a .x + r .i) =
+      omega arith in
       let f : 2 * s .a .x + r .i + r .j ≡ 2 * s .b .x = omega arith in
       ap (λ n. r .j * (2 * s .a .x) + r .i * n) (sym f) ∙ e ∙ ap₂ _*_ (r .wide) (r .lo)
 
 -- a point of both, u parts at column p and v parts at column p′
-module _ {s t : Segment} {N w q w₂ q₂ p p′ : ℕ} (S : Read s N w q p) (S′ : Read s N w q p′) (T : Read t N w₂ q₂ p) (T′ : Read t N w₂ q₂ p′)
-    (u v : ℕ) (pos : 0 < N) where
+module _ {s t : Segment} {N w q w₂ q₂ p p′ : ℕ} (S : Read s N w q p) (S′ : Read s N w q p′)
+    (T : Read t N w₂ q₂ p) (T′ : Read t N w₂ q₂ p′) (u v : ℕ) (pos : 0 < N) where
   one-x : {s : Segment} {w q : ℕ} (k : ℕ) (S : Read s N w q p) (S′ : Read s N w q p′)
       → 2 * ((u * S .j + v * S′ .j) * k * (s .a .x) + (u * S .i + v * S′ .i) * k * (s .b .x)) ≡ k * w * (u * p + v * p′)
   one-x k S S′ = omega (arith, ap (λ n. k * u * n) (read-x S), ap (λ n. k * v * n) (read-x S′))
@@ -46,9 +49,11 @@ module _ {s t : Segment} {N w q w₂ q₂ p p′ : ℕ} (S : Read s N w q p) (S�
   one-total k S S′ = omega (arith, ap (λ n. k * u * n) (S .wide), ap (λ n. k * v * n) (S′ .wide))
 
   one-y : {s : Segment} {w q : ℕ} (k : ℕ) (S : Read s N w q p) (S′ : Read s N w q p′)
-      → N * ((u * S .j + v * S′ .j) * k * (s .a .y) + (u * S .i + v * S′ .i) * k * (s .b .y)) ≡ k * w * (u * level S + v * level S′)
+      → N * ((u * S .j + v * S′ .j) * k * (s .a .y) + (u * S .i + v * S′ .i) * k * (s .b .y))
+      ≡ k * w * (u * level S + v * level S′)
   one-y {s} {w} {q} k S S′ =
-      ap (λ n. n * ((u * S .j + v * S′ .j) * k * (s .a .y) + (u * S .i + v * S′ .i) * k * (s .b .y))) (sym (S .unit)) ∙ omega arith
+      ap (λ n. n * ((u * S .j + v * S′ .j) * k * (s .a .y) + (u * S .i + v * S′ .i) * k * (s .b .y))) (sym (S .unit))
+      ∙ omega arith
 
   pub meet : u * level S + v * level S′ ≡ u * level T + v * level T′
       → 0 < w → 0 < w₂ → 0 < u * S .j + v * S′ .j → 0 < u * S .i + v * S′ .i → Touch s t
@@ -59,7 +64,8 @@ module _ {s t : Segment} {N w q w₂ q₂ p p′ : ℕ} (S : Read s N w q p) (S�
     δ = (u * T .i + v * T′ .i) * w;
     total = one-total w₂ S S′ ∙ turn (u + v) ∙ sym (one-total w T T′);
     on-x = eq-of-mul-eq-mul-left 2 (omega arith) _ _ (one-x w₂ S S′ ∙ turn (u * p + v * p′) ∙ sym (one-x w T T′));
-    on-y = eq-of-mul-eq-mul-left N pos _ _ (one-y w₂ S S′ ∙ turn (u * level S + v * level S′) ∙ ap (λ n. w * w₂ * n) e ∙ sym (one-y w T T′));
+    on-y = eq-of-mul-eq-mul-left N pos _ _
+        (one-y w₂ S S′ ∙ turn (u * level S + v * level S′) ∙ ap (λ n. w * w₂ * n) e ∙ sym (one-y w T T′));
     inner = inl (mul-pos hj hw₂, mul-pos hi hw₂);
   }
     where
@@ -67,8 +73,9 @@ module _ {s t : Segment} {N w q w₂ q₂ p p′ : ℕ} (S : Read s N w q p) (S�
       turn n = ap (λ m. m * n) (mul-comm w₂ w)
 
 -- a vertical t across the inside of s
-module _ {s t : Segment} {N w q c : ℕ} (S : Read s N w q (2 * c)) (pos : 0 < N) (at-a : t .a .x ≡ c) (at-b : t .b .x ≡ c)
-    (h γ δ : ℕ) (tall : t .a .y + h ≡ t .b .y) (low : N * t .a .y + δ ≡ level S) (high : level S + γ ≡ N * t .b .y) where
+module _ {s t : Segment} {N w q c : ℕ} (S : Read s N w q (2 * c)) (pos : 0 < N)
+    (at-a : t .a .x ≡ c) (at-b : t .b .x ≡ c) (h γ δ : ℕ) (tall : t .a .y + h ≡ t .b .y)
+    (low : N * t .a .y + δ ≡ level S) (high : level S + γ ≡ N * t .b .y) where
   pub meet-vertical : 0 < h → 0 < q → 0 < S .i → 0 < S .j → Touch s t
   meet-vertical hh hq hi hj = record {
     α = S .j * (q * h);
@@ -76,7 +83,15 @@ module _ {s t : Segment} {N w q c : ℕ} (S : Read s N w q (2 * c)) (pos : 0 < N
     γ = γ;
     δ = δ;
     total = total;
-    on-x = omega (arith, ap (λ n. q * h * n) (read-x S), ap (λ n. h * c * n) (S .unit), ap (λ n. c * n) total, ap (λ n. q * h * c * n) (S .wide), ap (λ n. γ * n) at-a, ap (λ n. δ * n) at-b);
+    on-x = omega (
+      arith,
+      ap (λ n. q * h * n) (read-x S),
+      ap (λ n. h * c * n) (S .unit),
+      ap (λ n. c * n) total,
+      ap (λ n. q * h * c * n) (S .wide),
+      ap (λ n. γ * n) at-a,
+      ap (λ n. δ * n) at-b,
+    );
     on-y = omega (arith, ap (λ n. h * n) low, ap (λ n. t .a .y * n) sums, ap (λ n. δ * n) tall);
     inner = inl (mul-pos hj (mul-pos hq hh), mul-pos hi (mul-pos hq hh));
   }

@@ -3,8 +3,10 @@
 --     order-le, order-ge, unlevel, order-lt, order-gt    kept weakly everywhere, strictly inside one of the two
 --     level-end            F2: level at a column that both span, they have a common end there
 --     order-right, order-left     F1: to a later column and to an earlier one; level only in a common right or left end
---     upright-side         F3: a vertical segment lies at or above the other or at or below it, and meets it only in a common end
---     keys-differ, key-order      F4: over one strip keys differ, and their order is that of the heights at both columns
+--     upright-side         F3: a vertical segment lies at or above the other or at or below it, and meets it only in a
+--                          common end
+--     keys-differ, key-order      F4: over one strip keys differ, and their order is that of the heights at both
+--                                 columns
 --     same-order           inside s the order is the same at every column, as an equation of tests
 -- Two segments here always share the half columns spoken of and do not touch. Assumes nothing.
 use mathlib.Core.Path.{_≡_, refl, sym, ap, _∙_}
@@ -26,7 +28,8 @@ use Rattle.plane.proofs.CrossLaws.{between-touch}
 use Rattle.plane.proofs.HeightLaws.{height-a, height-b, touch-level, touch-cross, touch-upright}
 
 -- a point strictly above the lower end of a vertical segment and strictly below the upper one is between them
-upright-between : (t : Segment) (d : Point) → t .a .x ≡ d .x → t .b .x ≡ d .x → t .a .y < d .y → d .y < t .b .y → Between t d
+upright-between : (t : Segment) (d : Point) → t .a .x ≡ d .x → t .b .x ≡ d .x
+    → t .a .y < d .y → d .y < t .b .y → Between t d
 upright-between t d ea eb lo hi = go (t .b .y - d .y) (d .y - t .a .y) (omega arith) (omega arith)
   where
     go : (α β : ℕ) → d .y + α ≡ t .b .y → t .a .y + β ≡ d .y → Between t d
@@ -80,14 +83,16 @@ module _ (M : ℕ) (scale : Scale M) where
     unlevel k sk tk (inl h) e = free (touch-level M scale s t k sk tk h e)
     unlevel k sk tk (inr h) e = free (touch-sym (touch-level M scale t s k tk sk h (sym e)))
 
-    pub level-end : (k : ℕ) → Spans s k → Spans t k → height M s k ≡ height M t k → (d : Point) × EndOf s d × EndOf t d × (k ≡ 2 * d .x)
+    pub level-end : (k : ℕ) → Spans s k → Spans t k → height M s k ≡ height M t k
+        → (d : Point) × EndOf s d × EndOf t d × (k ≡ 2 * d .x)
     level-end k sk tk e = go (inside-or-end s k sk) (inside-or-end t k tk)
       where
         go : Inside s k ⊎ EndAt M s k → Inside t k ⊎ EndAt M t k → (d : Point) × EndOf s d × EndOf t d × (k ≡ 2 * d .x)
         go (inl h) r = absurd (unlevel k sk tk (inl h) e)
         go (inr h) (inl r) = absurd (unlevel k sk tk (inr r) e)
         go (inr h) (inr r) =
-            let same = one-point (r .point) (h .point) (omega (arith, h .column, r .column)) (sym (r .high) ∙ sym e ∙ h .high) in
+            let same = one-point (r .point) (h .point)
+            (omega (arith, h .column, r .column)) (sym (r .high) ∙ sym e ∙ h .high) in
             (h .point, h .ends, rw same at (r .ends), h .column)
 
     -- ---- from one half column p to another, k
@@ -159,7 +164,8 @@ module _ (M : ℕ) (scale : Scale M) where
     pub key-order : (x : ℕ) → Spans s (2 * x + 1) → Spans t (2 * x + 1) → key M t x < key M s x
         → (height M t (2 * x) ≤ height M s (2 * x)) × (height M t (2 * suc x) ≤ height M s (2 * suc x))
     key-order x sk tk l = (
-      order-le (2 * x + 1) (2 * x) sk (spans s (2 * x) sk (omega arith) (omega arith)) tk (spans t (2 * x) tk (omega arith) (omega arith)) l,
+      order-le (2 * x + 1) (2 * x) sk (spans s (2 * x) sk (omega arith) (omega arith)) tk
+          (spans t (2 * x) tk (omega arith) (omega arith)) l,
       order-le (2 * x + 1) (2 * suc x) sk (spans s (2 * suc x) sk (omega arith) (omega arith)) tk
           (spans t (2 * suc x) tk (omega arith) (omega arith)) l,
     )
@@ -195,7 +201,9 @@ module _ (M : ℕ) (scale : Scale M) where
             let same = one-point (d .point) (t .a) (omega (arith, d .column)) (ap (λ n. 2 * M * n) l) in
             inr (omega (arith, d .high, ap (λ n. 2 * M * n) l), λ e. rw same at (d .ends))
         beside d (more l) (less r) =
-            absurd (free (touch-sym (between-touch t s (d .point) (upright-between t (d .point) (omega (arith, d .column)) (omega (arith, d .column)) l r) (d .ends))))
+            let inner : Between t (d .point) =
+            upright-between t (d .point) (omega (arith, d .column)) (omega (arith, d .column)) l r in
+            absurd (free (touch-sym (between-touch t s (d .point) inner (d .ends))))
         beside d (more l) (equal r) =
             let same = one-point (d .point) (t .b) (omega (arith, d .column)) (ap (λ n. 2 * M * n) r) in
             inl (omega (arith, d .high, ap (λ n. 2 * M * n) r), λ e. rw same at (d .ends))
@@ -204,5 +212,6 @@ module _ (M : ℕ) (scale : Scale M) where
             inl (omega (arith, d .high), λ e. absurd (omega (arith, d .high)))
 
         go : Inside s (2 * c) ⊎ EndAt M s (2 * c) → Answer
-        go (inl i) = clear i (lt-or-le (height M s (2 * c)) (2 * M * t .a .y)) (lt-or-le (2 * M * t .b .y) (height M s (2 * c)))
+        go (inl i) =
+            clear i (lt-or-le (height M s (2 * c)) (2 * M * t .a .y)) (lt-or-le (2 * M * t .b .y) (height M s (2 * c)))
         go (inr d) = beside d (side (d .point .y) (t .a .y)) (side (d .point .y) (t .b .y))

@@ -1,6 +1,7 @@
 -- From the statement to the test: two distinct segments that share a point inside one of them pass the test.
 --     balance      where a mean of c and d is one of a and b, the areas of c and d over a b cancel by the same weights
---     touch-way    so c and d lie on different sides of a b, or all four in line; in line, the order of the ends tells the way
+--     touch-way    so c and d lie on different sides of a b, or all four in line; in line, the order of the ends tells
+--                  the way
 -- Assumes nothing.
 use mathlib.Core.Path.{_≡_, sym, ap, _∙_}
 use mathlib.Core.Logic.{_⊎_, inl, inr}

@@ -1,6 +1,7 @@
 -- Heights of segments as whole numbers, and where a point lies to a segment.
--- A height is taken at a half column: k is the column k / 2, so a column is 2 * c and the middle of the strip between columns
--- x and x + 1 is 2 * x + 1. It is scaled by 2 * M, where M is a multiple of every width, so it is whole and exact.
+-- A height is taken at a half column: k is the column k / 2, so a column is 2 * c and the middle of the strip between
+-- columns x and x + 1 is 2 * x + 1. It is scaled by 2 * M, where M is a multiple of every width, so it is whole and
+-- exact.
 --     Scale M         every width from 1 to 65,535 divides M
 --     height M s k    2 * M times the height of s at half column k, for s not vertical and k between its ends
 --     key M s x       the height in the middle of the strip from column x to column x + 1

@@ -1,5 +1,6 @@
--- When two segments touch (document 01: "Two distinct segments touch if they share a point that is not an end of both").
--- The shared point is one of the plane, not of the grid, so it is named by weights: α parts of one end and β of the other.
+-- When two segments touch (document 01: "Two distinct segments touch if they share a point that is not an end of
+-- both"). The shared point is one of the plane, not of the grid, so it is named by weights: α parts of one end and β of
+-- the other.
 --     Touch s t      they share a point that is not an end of both; said of a segment and itself too
 --     within s p     p lies inside s, and is none of its ends
 --     splits s t     the ends of t lie on different sides of the line of s, and not on it

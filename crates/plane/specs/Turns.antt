@@ -6,7 +6,8 @@
 --     plus p q r, minus p q r    the determinant of the ways from p to q and from p to r is plus less minus;
 --                        both are sums of products of counts, so a program compares them and never subtracts
 --     largestProduct     how far a product inside a determinant reaches: 65,535 squared, 4,294,836,225
---     turnsLeft, turnsRight, straight   from p, the way to q turns counter-clockwise, clockwise or not onto the way to r
+--     turnsLeft, turnsRight, straight   from p, the way to q turns counter-clockwise, clockwise or not
+--                                       onto the way to r
 -- That the three tests are the determinant's sign is `turnsLeft-is`, `turnsRight-is` and `straight-is` of
 -- proofs/DeterminantLaws.antt; how far the products reach is `product-range` of proofs/RangeLaws.antt.
 -- Assumes nothing.

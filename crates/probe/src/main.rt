@@ -1,6 +1,6 @@
-// Asks the library what standard input asks, for a judge outside that knows the answers. A question takes 88 bytes: a letter,
-// the lengths of two arrays (at most 20), a byte that is not looked at, then 20 numbers of each array and a point's two.
-// A number takes two bytes, lowest first, and is counted from the grid's lower end.
+// Asks the library what standard input asks, for a judge outside that knows the answers. A question takes 88 bytes: a
+// letter, the lengths of two arrays (at most 20), a byte that is not looked at, then 20 numbers of each array and a
+// point's two. A number takes two bytes, lowest first, and is counted from the grid's lower end.
 //     t   how the first three points of the first array turn: L, S or R
 //     o   which comes first, the first record of the first array or that of the second: 1, 2, or 0 for neither
 //     h   the smaller head of the two arrays

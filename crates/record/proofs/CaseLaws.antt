@@ -26,7 +26,8 @@ module _ (r e : Record) where
   unfolding leads
   leads-right t = let h = right-is (r .dom) (r .other) (e .other) t in rw (h .0, h .1)
 
-  pub leads-straight : turnOf (r .dom) (r .other) (e .other) ≡ Straight → leads r e ≡ ltb (squareLength r) (squareLength e)
+  pub leads-straight : turnOf (r .dom) (r .other) (e .other) ≡ Straight
+      → leads r e ≡ ltb (squareLength r) (squareLength e)
   unfolding leads
   leads-straight t = let h = straight-is (r .dom) (r .other) (e .other) t in rw (h .0, h .1)
 

@@ -59,7 +59,8 @@ module _ (a b : List ℤ) where
       short = lt-leb width (length a) l
 
       go : (c : Bool) → wholeRecord b ≡ c → cond (wholeRecord a || wholeRecord b) width 0 ≡ 0
-      go true h = absurd (true≢false (sym (ap (λ t. t && (not (wholeRecord a) || precedes (recordAt b 0) (recordAt a 0))) h
+      go true h =
+          absurd (true≢false (sym (ap (λ t. t && (not (wholeRecord a) || precedes (recordAt b 0) (recordAt a 0))) h
           ∙ ap (λ t. not t || precedes (recordAt b 0) (recordAt a 0)) short) ∙ e))
       go false h = rw (short, h)
 
@@ -78,6 +79,7 @@ module _ (s : List ℤ) (p : Point) {i : ℕ} (first : i ≡ firstThere s p) whe
   unfolding runStart
   runStart-some l = rw (sym first, lt-ltb i (recordCount s) l)
 
-  pub runEnd-some : {j : ℕ} → j ≡ firstFrom (offCorner p) (recordAt s) i (recordCount s) → i < recordCount s → runEnd s p ≡ width * j
+  pub runEnd-some : {j : ℕ} → j ≡ firstFrom (offCorner p) (recordAt s) i (recordCount s) → i < recordCount s
+      → runEnd s p ≡ width * j
   unfolding runEnd
   runEnd-some e l = rw (sym first, lt-ltb i (recordCount s) l) (ap (λ n. width * n) (sym e))

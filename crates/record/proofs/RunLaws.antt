@@ -32,7 +32,8 @@ first-dom : (r e : Record) → precedes r e ≡ true → before (e .dom) (r .dom
 unfolding precedes
 first-dom r e h = is-false _ (λ back. by-case (or-true (before (r .dom) (e .dom)) _ h) back)
   where
-    by-case : (before (r .dom) (e .dom) ≡ true) ⊎ (same (r .dom) (e .dom) && earlier r e ≡ true) → before (e .dom) (r .dom) ≡ true → ⊥
+    by-case : (before (r .dom) (e .dom) ≡ true) ⊎ (same (r .dom) (e .dom) && earlier r e ≡ true)
+        → before (e .dom) (r .dom) ≡ true → ⊥
     by-case (inl g) back = before-once (r .dom) (e .dom) g back
     by-case (inr g) back =
         let one = same-true (r .dom) (e .dom) (and-true (same (r .dom) (e .dom)) _ g .0) in
@@ -48,14 +49,16 @@ not-smaller p q r h g = is-false _ (λ back. by-order (trichotomy p q) back)
     by-order (inr (inr l)) back = true≢false (sym l ∙ h)
 
 module _ (s : List ℤ) where
-  pub doms-rise : InOrder s → (i j : ℕ) → i ≤ j → j < recordCount s → before (recordAt s j .dom) (recordAt s i .dom) ≡ false
+  pub doms-rise : InOrder s → (i j : ℕ) → i ≤ j → j < recordCount s
+      → before (recordAt s j .dom) (recordAt s i .dom) ≡ false
   doms-rise o i j l h = rw (sym (add-sub-of-le l)) (climb (j - i) (omega arith))
     where
       climb : (k : ℕ) → i + k < recordCount s → before (recordAt s (i + k) .dom) (recordAt s i .dom) ≡ false
       climb zero g = rw add-zero (is-false _ (before-irrefl (recordAt s i .dom)))
       climb (suc k) g =
           rw add-suc
-          (not-smaller (recordAt s i .dom) (recordAt s (i + k) .dom) (recordAt s (suc (i + k)) .dom) (climb k (omega arith))
+          (not-smaller (recordAt s i .dom) (recordAt s (i + k) .dom) (recordAt s (suc (i + k)) .dom)
+          (climb k (omega arith))
           (first-dom (recordAt s (i + k)) (recordAt s (suc (i + k))) (o (i + k) (omega arith))))
 
   module _ (p : Point) where
@@ -67,9 +70,11 @@ module _ (s : List ℤ) where
     in-range = firstFrom-high (atCorner p) (recordAt s) 0 (recordCount s) zero-le
 
     pub run-only : (i : ℕ) → firstThere s p ≤ i → i < past → atCorner p (recordAt s i) ≡ true
-    run-only i h l = not-false _ (firstFrom-fails (offCorner p) (recordAt s) (firstThere s p) (recordCount s) in-range i h l)
+    run-only i h l =
+        not-false _ (firstFrom-fails (offCorner p) (recordAt s) (firstThere s p) (recordCount s) in-range i h l)
 
-    pub run-all : InOrder s → (i : ℕ) → i < recordCount s → atCorner p (recordAt s i) ≡ true → (firstThere s p ≤ i) × (i < past)
+    pub run-all : InOrder s → (i : ℕ) → i < recordCount s → atCorner p (recordAt s i) ≡ true
+        → (firstThere s p ≤ i) × (i < past)
     run-all o i short there = (starts, ends (lt-or-le i past))
       where
         starts : firstThere s p ≤ i
@@ -77,7 +82,8 @@ module _ (s : List ℤ) where
           where
             go : (i < firstThere s p) ⊎ (firstThere s p ≤ i) → firstThere s p ≤ i
             go (inl l) =
-                absurd (true≢false (sym there ∙ firstFrom-fails (atCorner p) (recordAt s) 0 (recordCount s) zero-le i zero-le l))
+                absurd (true≢false (sym there
+                ∙ firstFrom-fails (atCorner p) (recordAt s) 0 (recordCount s) zero-le i zero-le l))
             go (inr l) = l
 
         -- between two records at p, in order, all are at p
@@ -85,12 +91,15 @@ module _ (s : List ℤ) where
         between j lo hi = by-order (trichotomy (recordAt s j .dom) p)
           where
             at-start : recordAt s (firstThere s p) .dom ≡ p
-            at-start = same-true _ _ (firstFrom-passes (atCorner p) (recordAt s) 0 (recordCount s) zero-le (omega (arith, starts)))
+            at-start =
+                same-true _ _
+                (firstFrom-passes (atCorner p) (recordAt s) 0 (recordCount s) zero-le (omega (arith, starts)))
 
             at-end : recordAt s i .dom ≡ p
             at-end = same-true _ _ there
 
-            by-order : (before (recordAt s j .dom) p ≡ true) ⊎ ((recordAt s j .dom ≡ p) ⊎ (before p (recordAt s j .dom) ≡ true))
+            by-order : (before (recordAt s j .dom) p ≡ true)
+                ⊎ ((recordAt s j .dom ≡ p) ⊎ (before p (recordAt s j .dom) ≡ true))
                 → atCorner p (recordAt s j) ≡ true
             by-order (inl l) =
                 let low = doms-rise o (firstThere s p) j lo (omega arith) in
@@ -108,4 +117,6 @@ module _ (s : List ℤ) where
             low = firstFrom-low (offCorner p) (recordAt s) (firstThere s p) (recordCount s) in-range
 
             off : offCorner p (recordAt s past) ≡ true
-            off = firstFrom-passes (offCorner p) (recordAt s) (firstThere s p) (recordCount s) in-range (omega (arith, l))
+            off =
+                firstFrom-passes (offCorner p) (recordAt s) (firstThere s p) (recordCount s) in-range
+                (omega (arith, l))

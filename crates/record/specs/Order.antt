@@ -5,9 +5,11 @@
 --     gap m n             how far two counts lie apart
 --     squareLength r      the square of its length
 --     Squared r q         q is that square, and no more than two products of counts
---     leads r e           at one end and of one half: r turns counter-clockwise onto e, or lies in line with it and is shorter
+--     leads r e           at one end and of one half: r turns counter-clockwise onto e, or lies in line with it and is
+--                         shorter
 --     earlier r e         at one end: right halves before left, then as `leads` says
---     precedes r e        document 01's order: the smaller dominating end first, then as `earlier` says. The mark does not count
+--     precedes r e        document 01's order: the smaller dominating end first, then as `earlier` says. The mark does
+--                         not count
 -- Assumes nothing.
 use mathlib.Core.Path.{_≡_}
 use mathlib.Core.Bool.{Bool, false, _&&_, _||_, cond}
@@ -33,7 +35,8 @@ gap m n = (m - n) + (n - m)
 
 unfoldable pub squareLength : Record → ℕ
 squareLength r =
-    gap (r .dom .x) (r .other .x) * gap (r .dom .x) (r .other .x) + gap (r .dom .y) (r .other .y) * gap (r .dom .y) (r .other .y)
+    gap (r .dom .x) (r .other .x) * gap (r .dom .x) (r .other .x)
+    + gap (r .dom .y) (r .other .y) * gap (r .dom .y) (r .other .y)
 
 pub record Squared (r : Record) (q : ℕ) : Type 0 where
   pub is : q ≡ squareLength r

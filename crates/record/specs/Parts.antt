@@ -1,11 +1,13 @@
 -- The parts of a chart array that are handed back (document 01, "Points, corners and heads").
 --     Part s a e r       r is that very part of s, from number a up to number e: its numbers, and where it points
 --     atCorner p r       r's dominating end is p; offCorner is the opposite
---     runStart s p, runEnd s p    the run of records at p: from the first that is there to the first later one that is not,
---                        as places of numbers in s. Both 0 where there is none: the empty part at the array's beginning
+--     runStart s p, runEnd s p    the run of records at p: from the first that is there to the first later one that is
+--                        not, as places of numbers in s. Both 0 where there is none: the empty part at the array's
+--                        beginning
 --     Run s p r          r is that run of s
 --     wholeRecord s      s has a whole record left: five numbers
---     fromSecond a b     the smaller head is the second array's: it has one, and comes strictly earlier or the first has none
+--     fromSecond a b     the smaller head is the second array's: it has one, and comes strictly earlier or the first
+--                        has none
 --     headLength a b     five numbers, or none where both arrays have fewer
 --     SmallerHead a b r  r is the smaller head of a and b, a part of whichever holds it
 -- These ask nothing of the array: it need be no chart. Assumes nothing.
@@ -46,7 +48,8 @@ runStart s p = cond (ltb (firstThere s p) (recordCount s)) (width * firstThere s
 
 unfoldable pub runEnd : List ℤ → Point → ℕ
 runEnd s p =
-    cond (ltb (firstThere s p) (recordCount s)) (width * firstFrom (offCorner p) (recordAt s) (firstThere s p) (recordCount s)) 0
+    cond (ltb (firstThere s p) (recordCount s))
+    (width * firstFrom (offCorner p) (recordAt s) (firstThere s p) (recordCount s)) 0
 
 abbrev pub Run : RefT (List ℤ) → Point → RefT (List ℤ) → Type 0
 Run s p r = Part s (runStart (s .now) p) (runEnd (s .now) p) r

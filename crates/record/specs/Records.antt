@@ -1,5 +1,5 @@
--- Records out of a chart array (document 01: "A chart is an array of such numbers, five per record: x and y of the dominating
--- end, x and y of the other end, side mark 0 or 1").
+-- Records out of a chart array (document 01: "A chart is an array of such numbers, five per record: x and y of the
+-- dominating end, x and y of the other end, side mark 0 or 1").
 --     width             how many numbers a record takes
 --     countAt s i       number i, counted from the grid's lower end
 --     pointAt s i       the point whose x is number i
@@ -27,7 +27,8 @@ abbrev pub pointAt : List ℤ → ℕ → Point
 pointAt s i = pointOf (getD s i (pos 0)) (getD s (i + 1) (pos 0))
 
 unfoldable pub recordAt : List ℤ → ℕ → Record
-recordAt s i = record { dom = pointAt s (width * i); other = pointAt s (width * i + 2); mark = countAt s (width * i + 4) }
+recordAt s i =
+    record { dom = pointAt s (width * i); other = pointAt s (width * i + 2); mark = countAt s (width * i + 4) }
 
 abbrev pub recordCount : List ℤ → ℕ
 recordCount s = length s / width

@@ -1,5 +1,5 @@
-// A record of a chart, read out of a chart array. The order of two records is in order.rt, the parts of an array that hold
-// records in parts.rt.
+// A record of a chart, read out of a chart array. The order of two records is in order.rt, the parts of an array that
+// hold records in parts.rt.
 ghost use mathlib.Core.Path.{_≡_};
 ghost use Prim.Native.Nat.{_+_, _*_, _≤_, _<_};
 ghost use lib.ListN.{length};
@@ -13,7 +13,8 @@ pub mod parts;
 // How many numbers a record takes in a chart array.
 pub const WIDTH: usize = 5;
 
-// A record: half of a segment, seen from its dominating end. Its numbers are counted from the grid's lower end, the mark too.
+// A record: half of a segment, seen from its dominating end. Its numbers are counted from the grid's lower end, the
+// mark too.
 pub struct Record {
     pub dom: Point,
     pub other: Point,

@@ -55,8 +55,8 @@ fn first_elsewhere(s: &[i16], p: Point, a: usize, n: usize) -> usize
     n
 }
 
-// The run of records whose dominating end is p, as that very part of the array. Where the array is ordered these are all of
-// them; of any other array it is the first run.
+// The run of records whose dominating end is p, as that very part of the array. Where the array is ordered these are
+// all of them; of any other array it is the first run.
 pub fn run_at(s: &[i16], p: Point) -> &[i16]
     ensures { λ r. ⌜ Run (s .entry) p r ⌝ }
 {
@@ -86,8 +86,8 @@ fn is_from_second(a: &[i16], b: &[i16]) -> bool
     is_earlier(record_at(b, 0), record_at(a, 0))
 }
 
-// The first record of whichever array has the smaller, as that very part of it. Empty, at the first array's beginning, where
-// neither has a whole record.
+// The first record of whichever array has the smaller, as that very part of it. Empty, at the first array's beginning,
+// where neither has a whole record.
 pub fn smaller_head<'a>(a: &'a [i16], b: &'a [i16]) -> &'a [i16]
     ensures { λ r. ⌜ SmallerHead (a .entry) (b .entry) r ⌝ }
 {

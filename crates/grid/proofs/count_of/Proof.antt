@@ -15,7 +15,8 @@ add-result c = sum-fits (c .args .v) (c .fits .v) _ (search needs)
 
 cast-result-2 : tie.Need-cast-result-2
 cast-result-2 c =
-    rw (count-is (c .args .v) (c .fits .v)) (tt, record { fits = omega (arith, up-small (c .args .v) (c .fits .v .sfits)) })
+    rw (count-is (c .args .v) (c .fits .v))
+    (tt, record { fits = omega (arith, up-small (c .args .v) (c .fits .v .sfits)) })
 
 returns : tie.Need-returns
 returns c = rw (count-is (c .args .v) (c .fits .v)) refl

@@ -8,13 +8,15 @@ returns : tie.Need-returns
 returns c =
     let sums = c .before in
     let args = sums .before .before .args in
-    turnOf-left (args .p) (args .q) (args .r) (sums .minus-of .ensures .is) (sums .before .plus-of .ensures .is) (c .if1 .taken)
+    turnOf-left (args .p) (args .q) (args .r) (sums .minus-of .ensures .is) (sums .before .plus-of .ensures .is)
+    (c .if1 .taken)
 
 returns-2 : tie.Need-returns-2
 returns-2 c =
     let sums = c .before .before in
     let args = sums .before .before .args in
-    turnOf-right (args .p) (args .q) (args .r) (sums .minus-of .ensures .is) (sums .before .plus-of .ensures .is) (c .if2 .taken)
+    turnOf-right (args .p) (args .q) (args .r) (sums .minus-of .ensures .is) (sums .before .plus-of .ensures .is)
+    (c .if2 .taken)
 
 returns-3 : tie.Need-returns-3
 returns-3 c =

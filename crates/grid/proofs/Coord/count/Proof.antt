@@ -7,7 +7,8 @@ use Rattle.grid.proofs.Coord.count.Tie as tie
 
 returns : tie.Need-returns
 returns c =
-    rw (toZ-ofZ w16 (c .before .before .args .self .v) (record { sfits = c .before .struct-told .given .0 .1 })) at (c .count-of .ensures)
+    rw (toZ-ofZ w16 (c .before .before .args .self .v) (record { sfits = c .before .struct-told .given .0 .1 }))
+    at (c .count-of .ensures)
 
 pub count-spec : {M : Type 1} → statement M
 count-spec = tie.close (tie.spec (λ c κs. search needs) returns)

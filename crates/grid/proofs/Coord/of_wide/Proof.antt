@@ -32,7 +32,8 @@ returns-3 c =
     let is = toZ-ofZ w64 (start .args .v) (start .fits .v) in
     let low = rw is at (c .before .if1 .left) in
     let high = rw is at (c .if2 .left) in
-    rw (is, toZ-ofZ w16 (start .args .v) (record { sfits = on-fits (start .args .v) low high })) (located-on (start .args .v) low high)
+    rw (is, toZ-ofZ w16 (start .args .v) (record { sfits = on-fits (start .args .v) low high }))
+    (located-on (start .args .v) low high)
 
 pub of-wide-spec : {M : Type 1} → statement M
 of-wide-spec = tie.close (tie.spec returns returns-2 cast-t3 returns-3)

@@ -30,4 +30,5 @@ returns-3 c =
 
 pub is-earlier-spec : {M : Type 1} → statement M
 is-earlier-spec =
-    tie.close (tie.spec (λ c κs. search needs) returns (λ c κs. search needs) (λ c κs. search needs) returns-2 returns-3)
+    tie.close
+    (tie.spec (λ c κs. search needs) returns (λ c κs. search needs) (λ c κs. search needs) returns-2 returns-3)

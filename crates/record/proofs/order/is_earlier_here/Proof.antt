@@ -44,5 +44,5 @@ returns-4 c =
 pub is-earlier-here-spec : {M : Type 1} → statement M
 is-earlier-here-spec =
     tie.close
-    (tie.spec (λ c κs. search needs) (λ c κs. search needs) (λ c κs. search needs) returns returns-2 (λ c κs. search needs)
-    (λ c κs. search needs) returns-3 returns-4)
+    (tie.spec (λ c κs. search needs) (λ c κs. search needs) (λ c κs. search needs) returns returns-2
+    (λ c κs. search needs) (λ c κs. search needs) returns-3 returns-4)

@@ -17,7 +17,8 @@ returns-2 c =
     let called = c .before .before .before .before in
     let args = called .before .args in
     ap₂ ltb (c .before .square-length-of .ensures .is) (c .square-length-of2 .ensures .is)
-    ∙ sym (leads-straight (args .r) (args .e) (sym (called .turn-of .ensures) ∙ c .before .before .enum-told2 .given .1))
+    ∙ sym (leads-straight (args .r) (args .e)
+    (sym (called .turn-of .ensures) ∙ c .before .before .enum-told2 .given .1))
 
 returns-3 : tie.Need-returns-3
 returns-3 c =
@@ -28,5 +29,5 @@ returns-3 c =
 pub is-leading-spec : {M : Type 1} → statement M
 is-leading-spec =
     tie.close
-    (tie.spec (λ c κs. search needs) (λ c. search needs) (λ c. search needs) (λ c κs. search needs) (λ c κs. search needs)
-    (λ c. search needs) returns returns-2 returns-3)
+    (tie.spec (λ c κs. search needs) (λ c. search needs) (λ c. search needs) (λ c κs. search needs)
+    (λ c κs. search needs) (λ c. search needs) returns returns-2 returns-3)

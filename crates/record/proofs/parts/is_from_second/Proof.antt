@@ -21,4 +21,5 @@ returns-3 c =
 
 pub is-from-second-spec : {M : Type 1} → statement M
 is-from-second-spec =
-    tie.close (tie.spec returns returns-2 (λ c κs. search needs) (λ c κs. search needs) (λ c κs. search needs) returns-3)
+    tie.close
+    (tie.spec returns returns-2 (λ c κs. search needs) (λ c κs. search needs) (λ c κs. search needs) returns-3)

@@ -10,7 +10,8 @@ returns c =
     let first = found .first-there .ensures .is in
     let none = c .before .if1 .taken in
     let args = found .before .args in
-    rw (runStart-none (args .s .now) (args .p) first none, runEnd-none (args .s .now) (args .p) first none) (search needs)
+    rw (runStart-none (args .s .now) (args .p) first none, runEnd-none (args .s .now) (args .p) first none)
+    (search needs)
 
 returns-2 : tie.Need-returns-2
 returns-2 c =
@@ -19,11 +20,15 @@ returns-2 c =
     let first = found .first-there .ensures .is in
     let some = past .before .if1 .left in
     let args = found .before .args in
-    rw (runStart-some (args .s .now) (args .p) first some, runEnd-some (args .s .now) (args .p) first (past .first-elsewhere .ensures .is) some)
+    rw (
+      runStart-some (args .s .now) (args .p) first some,
+      runEnd-some (args .s .now) (args .p) first (past .first-elsewhere .ensures .is) some,
+    )
     (search needs)
 
 pub run-at-spec : {M : Type 1} → statement M
 run-at-spec =
     tie.close
-    (tie.spec (λ c κs. search needs) (λ c. search needs) (λ c. search needs) (λ c. search needs) returns (λ c κs. search needs)
-    (λ c. search needs) (λ c. search needs) (λ c. search needs) (λ c. search needs) (λ c. search needs) (λ c. search needs) returns-2)
+    (tie.spec (λ c κs. search needs) (λ c. search needs) (λ c. search needs) (λ c. search needs) returns
+    (λ c κs. search needs) (λ c. search needs) (λ c. search needs) (λ c. search needs) (λ c. search needs)
+    (λ c. search needs) (λ c. search needs) returns-2)

@@ -1,4 +1,5 @@
--- `smaller_head` meets its contract: which array, and how long, by `fromSecond` and the first array's length. Assumes nothing.
+-- `smaller_head` meets its contract: which array, and how long, by `fromSecond` and the first array's length.
+-- Assumes nothing.
 use mathlib.Core.Path.{sym, _∙_}
 use borrow.Author.Needs.{needs}
 use Rattle.record.proofs.PartLaws.{fromSecond-whole, headLength-second, headLength-first, headLength-none}
@@ -29,5 +30,6 @@ returns-3 c =
 pub smaller-head-spec : {M : Type 1} → statement M
 smaller-head-spec =
     tie.close
-    (tie.spec (λ c κs. search needs) (λ c. search needs) (λ c. search needs) part-result-end returns (λ c. search needs) (λ c. search needs)
-    (λ c. search needs) returns-2 (λ c. search needs) (λ c. search needs) (λ c. search needs) returns-3)
+    (tie.spec (λ c κs. search needs) (λ c. search needs) (λ c. search needs) part-result-end returns
+    (λ c. search needs) (λ c. search needs) (λ c. search needs) returns-2
+    (λ c. search needs) (λ c. search needs) (λ c. search needs) returns-3)
