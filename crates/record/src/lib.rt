@@ -3,7 +3,7 @@
 ghost use mathlib.Core.Path.{_≡_};
 ghost use Prim.Native.Nat.{_+_, _*_, _≤_, _<_};
 ghost use lib.ListN.{length};
-ghost use Rattle.record.specs.Records.{width, countAt, pointAt, recordAt};
+ghost use Rattle.record.specs.Records.{width, pointAt, recordAt};
 ghost use Rattle.record.specs.Order.{left, otherHalf};
 use plane::Point;
 
@@ -23,21 +23,11 @@ pub struct Record {
 
 // ---- reading: the one place where a record is taken out of an array
 
-fn count_at(s: &[i16], i: usize) -> u16
-    requires { ⌜ i < length (now s) ⌝ }
-    ensures { λ r. ⌜ r ≡ countAt (now (s .entry)) i ⌝ }
-{
-    grid::count_of(s[i])
-}
-
 fn point_at(s: &[i16], i: usize) -> Point
     requires { ⌜ i + 1 < length (now s) ⌝ }
     ensures { λ r. ⌜ r ≡ pointAt (now (s .entry)) i ⌝ }
 {
-    Point {
-        x: count_at(s, i),
-        y: count_at(s, i + 1),
-    }
+    grid::point_of(s[i], s[i + 1])
 }
 
 pub fn record_at(s: &[i16], i: usize) -> Record
@@ -48,7 +38,7 @@ pub fn record_at(s: &[i16], i: usize) -> Record
     Record {
         dom: point_at(s, b),
         other: point_at(s, b + 2),
-        mark: count_at(s, b + 4),
+        mark: grid::count_of(s[b + 4]),
     }
 }
 
