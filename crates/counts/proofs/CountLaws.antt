@@ -6,10 +6,10 @@
 --     all-is, any-is                                   the tests are what they say
 --     odd-plus, odd-add, odd-less, odd-same            parities of sums
 -- Assumes nothing.
-use mathlib.Core.Path.{_≡_, refl, sym, ap, _∙_, subst}
+use mathlib.Core.Path.{_≡_, refl, sym, ap, _∙_}
 use mathlib.Core.Logic.{_⊎_, inl, inr, _↔_}
 use mathlib.Core.Bool.{Bool, true, false, _&&_, _||_, cond, true≢false}
-use mathlib.Core.List.{List, [], _∷_, _++_, List·Memᴰ}
+use mathlib.Core.List.{List, [], _∷_, _++_}
 use mathlib.Core.List.{List·Memᴰ·head, List·Memᴰ·tail, List·Memᴰ·not-nil, List·Memᴰ·cases-cons}
 use Prim.Native.Nat.{ℕ, _+_, _%_, _<_, _≤_}
 use lib.Dec.{eqb}
@@ -17,7 +17,7 @@ use lib.ListN.{length, take, drop, take-append-drop}
 use native.Mathlib.Omega.{arith}
 use borrow.Author.Tests.{eqb-false, eq-eqb, ne-eqb}
 use Rattle.counts.specs.Count.{_∈_, ind, sum, count, keep, all, any, odd, _⊕_}
-use Rattle.counts.proofs.TestLaws.{tests, and-true, is-false}
+use Rattle.counts.proofs.TestLaws.{tests, and-true}
 use Rattle.counts.proofs.SumLaws.{sum-ext, sum-le, sum-zero, sum-append}
 
 module _ {A : Type 0} where

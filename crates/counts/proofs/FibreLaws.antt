@@ -8,8 +8,8 @@
 -- Assumes nothing.
 use mathlib.Core.Path.{_≡_, refl, sym, ap, _∙_}
 use mathlib.Core.Bool.{Bool, true, false, _&&_, _||_, not, true≢false}
-use mathlib.Core.List.{List, [], _∷_, map, List·Memᴰ, List·Memᴰ·head, List·Memᴰ·tail}
-use Prim.Native.Nat.{ℕ, _+_, _*_, _/_, _%_}
+use mathlib.Core.List.{List, [], _∷_, map, List·Memᴰ·head, List·Memᴰ·tail}
+use Prim.Native.Nat.{ℕ, _+_, _*_, _/_}
 use native.Mathlib.Omega.{arith}
 use Rattle.counts.specs.Count.{_∈_, ind, sum, count, Even}
 use Rattle.counts.proofs.SumLaws.{sum-ext, sum-add, sum-mul, sum-zero, sum-swap}

@@ -3,14 +3,14 @@
 --     highest          none passes, or there is such a one
 --     at-most-one      where any two that pass are one, and each member is there once, at most one passes
 -- Assumes nothing.
-use mathlib.Core.Path.{_≡_, refl, sym, ap, _∙_, subst}
+use mathlib.Core.Path.{_≡_, refl, sym, _∙_, subst}
 use mathlib.Core.Logic.{_⊎_, inl, inr}
 use mathlib.Core.Bool.{Bool, true, false, true≢false}
-use mathlib.Core.List.{List, [], _∷_, List·Memᴰ}
+use mathlib.Core.List.{List, [], _∷_}
 use mathlib.Core.List.{List·Memᴰ·head, List·Memᴰ·tail, List·Memᴰ·not-nil, List·Memᴰ·cases-cons}
 use Prim.Native.Nat.{ℕ, _<_, _≤_}
 use native.Mathlib.Omega.{arith}
-use Rattle.counts.specs.Count.{_∈_, ind, sum, count}
+use Rattle.counts.specs.Count.{_∈_, ind, count}
 use Rattle.counts.proofs.TestLaws.{lt-or-le}
 use Rattle.counts.proofs.SumLaws.{sum-le}
 use Rattle.counts.proofs.CountLaws.{count-off}

@@ -7,10 +7,9 @@
 -- Each law takes what the code has, b ≡ p (f i) and b ≡ true, and gives the next invariant or the contract.
 -- Assumes nothing.
 use mathlib.Core.Path.{_≡_, refl, sym, ap, _∙_}
-use mathlib.Core.Bool.{Bool, true, false, cond}
-use Prim.Native.Nat.{ℕ, zero, suc, _+_, _-_, _≤_, _<_}
+use mathlib.Core.Bool.{Bool, true, false}
+use Prim.Native.Nat.{ℕ, suc, _+_, _-_, _≤_, _<_}
 use native.Mathlib.Numerals.{add-one}
-use native.Mathlib.Nat.{add-zero, add-suc}
 use native.Mathlib.Omega.{arith}
 use Rattle.counts.specs.Count.{ind, sum, count, firstIndex, listed}
 use Rattle.counts.specs.Scan.{firstFrom, Found, Counted}

@@ -11,13 +11,13 @@ use mathlib.Core.Path.{_≡_, refl, sym, ap, ap₂, _∙_, subst, fun-ext}
 use mathlib.Core.Logic.{_⊎_, inl, inr}
 use mathlib.Core.Bool.{Bool, true, false, _&&_, true≢false}
 use mathlib.Core.List.{List}
-use Prim.Native.Nat.{ℕ, zero, suc, _+_, _*_, _<_, _≤_}
+use Prim.Native.Nat.{ℕ, zero, suc, _+_, _*_, _≤_}
 use lib.Dec.{ltb, eqb}
 use native.Mathlib.Omega.{arith}
 use borrow.Author.Tests.{eqb-true, ltb-true, ltb-false, lt-ltb, le-ltb, eq-eqb, ne-eqb}
-use Rattle.counts.specs.Count.{_∈_, ind, sum, count, odd, _⊕_}
+use Rattle.counts.specs.Count.{_∈_, ind, count, odd, _⊕_}
 use Rattle.counts.proofs.TestLaws.{and-true, xor-back, Side, less, equal, more, side}
-use Rattle.counts.proofs.SumLaws.{sum-ext, sum-add, sum-mul, sum-zero}
+use Rattle.counts.proofs.SumLaws.{sum-ext, sum-add, sum-mul}
 use Rattle.counts.proofs.CountLaws.{count-ext, count-off, count-le, odd-add}
 use Rattle.counts.proofs.HighestLaws.{Top, highest}
 

@@ -4,9 +4,9 @@
 --     difference-fits, narrowed-fits, number-is     down: a count, widened, and 32,768 less
 -- The sum and the difference fit at any step k, so that a wrong step is refused for what it answers.
 -- Assumes nothing.
-use mathlib.Core.Path.{_≡_, refl, sym, _∙_}
+use mathlib.Core.Path.{_≡_, refl}
 use mathlib.Core.Bool.{Bool, true, false, cond}
-use Prim.Native.Nat.{ℕ, suc, _+_, _-_, _<_}
+use Prim.Native.Nat.{ℕ, suc, _-_, _<_}
 use native.Mathlib.Omega.{arith}
 use lib.Dec.{ltb}
 use lib.IntN.{ℤ, pos, negsuc, _+ℤ_, _-ℤ_}
@@ -14,7 +14,6 @@ use lib.Signed.{mag}
 use mir.Syntax.{w16, w32}
 use mir.Val.{SFits, toZ, ofZ}
 use mir.ValLaws.{toZ-ofZ, toZ-pos}
-use Rattle.counts.proofs.TestLaws.{tests}
 use Rattle.grid.specs.Coordinates.{up, down}
 use Rattle.grid.proofs.CoordinateLaws.{up-small, up-sum, down-fits}
 

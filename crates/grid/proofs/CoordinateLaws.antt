@@ -10,14 +10,14 @@
 use mathlib.Core.Path.{_≡_, refl, sym, ap, ap₂, _∙_}
 use mathlib.Core.Logic.{⊎-elim}
 use mathlib.Core.Bool.{Bool, true, false, not, cond, _&&_}
-use Prim.Native.Nat.{ℕ, suc, _+_, _-_, _<_, _≤_}
+use Prim.Native.Nat.{ℕ, suc, _+_, _-_, _<_}
 use native.Mathlib.Omega.{arith}
 use lib.Dec.{ltb, leb}
 use lib.IntN.{ℤ, pos, negsuc, _+ℤ_, _-ℤ_}
 use lib.Signed.{mag, ltZ, leZ}
 use borrow.Author.Tests.{leb-true, lt-ltb, le-ltb, le-leb, lt-leb}
 use Rattle.counts.proofs.TestLaws.{tests, lt-or-le, and-true, same-test}
-use Rattle.plane.proofs.DifferenceLaws.{diff, diff-same, diff-sub}
+use Rattle.plane.proofs.DifferenceLaws.{diff-same, diff-sub}
 use Rattle.grid.specs.Coordinates.{onGrid, located, up, down}
 use Rattle.grid.specs.declared.Located.the-variants.{On, Off}
 

@@ -11,7 +11,7 @@ use mathlib.Core.Bool.{true}
 use Prim.Native.Nat.{_<_}
 use lib.IntN.{ℤ, pos, _-ℤ_}
 use lib.Signed.{mag, ltZ}
-use borrow.Author.Tests.{ltb-true, lt-ltb, eqb-true}
+use borrow.Author.Tests.{ltb-true, lt-ltb}
 use Rattle.plane.specs.declared.Point.{Point}
 use Rattle.plane.specs.Points.{before, same}
 use Rattle.plane.specs.Turns.{Direction, direction, determinant, turnsLeft}

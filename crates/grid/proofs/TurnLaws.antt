@@ -2,7 +2,7 @@
 --     turnOf-left, turnOf-right, turnOf-straight    its value in each case, from the two sums that a program compares
 --     left-is, right-is, straight-is                what each answer says of the tests on turns
 -- Assumes nothing.
-use mathlib.Core.Path.{_≡_, refl, sym, ap, ap₂, _∙_}
+use mathlib.Core.Path.{_≡_, refl}
 use mathlib.Core.Bool.{Bool, true, false, cond}
 use Prim.Native.Nat.{ℕ, _<_, _≤_}
 use native.Mathlib.Omega.{arith}
@@ -11,7 +11,6 @@ use borrow.Author.Tests.{ltb-true, ltb-false, lt-ltb, le-ltb, eq-eqb, ne-eqb}
 use Rattle.plane.specs.declared.Point.{Point}
 use Rattle.plane.specs.Turns.{plus, minus, turnsLeft, turnsRight, straight}
 use Rattle.grid.specs.Turning.{turnOf}
-use Rattle.grid.specs.declared.Turn.{Turn}
 use Rattle.grid.specs.declared.Turn.the-variants.{Left, Straight, Right}
 
 module _ (p q r : Point) {m n : ℕ} (em : m ≡ minus p q r) (en : n ≡ plus p q r) where

@@ -10,7 +10,7 @@
 -- That each is the other's inverse, that `up` keeps the order and every difference are laws of
 -- proofs/CoordinateLaws.antt; so points compare and turn as their signed coordinates do, by proofs/SignedLaws.antt.
 -- Assumes nothing.
-use mathlib.Core.Bool.{Bool, true, false, cond, _&&_}
+use mathlib.Core.Bool.{Bool, cond, _&&_}
 use Prim.Native.Nat.{ℕ, _+_, _-_}
 use lib.IntN.{ℤ, pos, negsuc, _-ℤ_}
 use lib.Signed.{leZ}

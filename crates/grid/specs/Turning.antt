@@ -5,7 +5,7 @@
 --     TurnSum n s        s is n, one of the two sums of a turn, and no more than three such products
 -- Assumes nothing.
 use mathlib.Core.Path.{_≡_}
-use mathlib.Core.Bool.{Bool, cond}
+use mathlib.Core.Bool.{cond}
 use Prim.Native.Nat.{ℕ, _*_, _≤_}
 use Rattle.plane.specs.declared.Point.{Point}
 use Rattle.plane.specs.Turns.{turnsLeft, turnsRight, largestProduct}

@@ -60,7 +60,8 @@ impl Coord {
     pub fn count(self) -> u16
         ensures { λ r. ⌜ r ≡ up (self .v) ⌝ }
     {
-        count_of(self.v)
+        let v = self.v;
+        count_of(v)
     }
 
     // The coordinate that lies so far above the grid's lower end.

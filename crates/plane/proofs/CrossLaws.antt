@@ -6,13 +6,12 @@
 -- The area of q over a b, signed and doubled, is `plus a b q` less `minus a b q`. Assumes nothing.
 use mathlib.Core.Path.{_≡_, refl, sym, ap, subst}
 use mathlib.Core.Logic.{inl, inr}
-use mathlib.Core.Bool.{true}
 use Prim.Native.Nat.{ℕ, _+_, _-_, _*_}
 use native.Mathlib.Omega.{arith}
 use Rattle.plane.specs.declared.Point.{Point}
 use Rattle.plane.specs.declared.Segment.{Segment}
 use Rattle.plane.specs.Turns.{plus, minus}
-use Rattle.plane.specs.Touching.{Touch, within, splits}
+use Rattle.plane.specs.Touching.{Touch}
 use Rattle.plane.proofs.PointLaws.{before-irrefl}
 use Rattle.plane.proofs.SideLaws.{Left, Right, Apart, splits-true, within-true}
 use Rattle.plane.proofs.WithinLaws.{EndOf, Between, within-between}

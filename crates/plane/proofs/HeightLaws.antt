@@ -5,12 +5,11 @@
 --     touch-upright             a vertical segment across the inside of another touches it
 --     above-is, on-is, below-is    a point lies above, on or below a segment as its height says: three turns
 -- Only this file looks behind `height`. Assumes nothing.
-use mathlib.Core.Path.{_≡_, refl, sym, ap, ap₂, _∙_}
+use mathlib.Core.Path.{_≡_, sym, ap, _∙_}
 use mathlib.Core.Logic.{_⊎_, inl, inr}
-use mathlib.Core.Bool.{Bool}
 use Prim.Native.Nat.{ℕ, _+_, _-_, _*_, _/_, _<_, _≤_}
 use native.Mathlib.Nat.{mul-pos, mul-lt-mul-of-pos-left, lt-of-mul-lt-mul-left}
-use native.Mathlib.Nat.{lt-of-lt-of-le, add-sub-of-le, le-of-lt, eq-zero-or-pos}
+use native.Mathlib.Nat.{add-sub-of-le, eq-zero-or-pos}
 use native.Mathlib.Omega.{arith}
 use lib.Dec.{ltb, eqb}
 use borrow.Author.Tests.{lt-ltb, le-ltb, eq-eqb, ne-eqb}

@@ -5,12 +5,11 @@
 --     meet               two segments level in the mean of two half columns, by weights u and v, have a common point
 --     meet-vertical      a vertical segment from at or below another to at or above it has one
 -- Assumes nothing.
-use mathlib.Core.Path.{_≡_, refl, sym, ap, ap₂, _∙_}
-use mathlib.Core.Logic.{_⊎_, inl, inr}
-use Prim.Native.Nat.{ℕ, _+_, _*_, _<_, _≤_}
+use mathlib.Core.Path.{_≡_, sym, ap, ap₂, _∙_}
+use mathlib.Core.Logic.{inl}
+use Prim.Native.Nat.{ℕ, _+_, _*_, _<_}
 use native.Mathlib.Nat.{eq-of-mul-eq-mul-left, mul-pos, mul-comm}
 use native.Mathlib.Omega.{arith}
-use Rattle.plane.specs.declared.Point.{Point}
 use Rattle.plane.specs.declared.Segment.{Segment}
 use Rattle.plane.specs.Touching.{Touch}
 

@@ -5,7 +5,7 @@
 --     determinant-range    plus and minus differ by at most 65,535 * 65,535, the area of the grid's box
 -- Assumes nothing.
 use Prim.Native.Nat.{ℕ, _+_, _-_, _*_, _≤_, _<_}
-use mathlib.Core.Path.{_≡_, refl, ap}
+use mathlib.Core.Path.{_≡_, ap}
 use mathlib.Core.Logic.{_⊎_, inl, inr, ⊎-elim}
 use native.Mathlib.Nat.{mul-le-mul, mul-le-mul-left, le-of-lt, le-trans}
 use native.Mathlib.Omega.{arith}

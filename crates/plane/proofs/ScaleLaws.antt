@@ -1,9 +1,9 @@
 -- There is a scale: a factorial, which stays shut, so nothing computes it.
 --     unit, unit-scale     the scale that theorems are closed with, and that it is one
 -- Assumes nothing.
-use mathlib.Core.Path.{_≡_, sym, ap, _∙_}
+use mathlib.Core.Path.{_≡_, ap}
 use mathlib.Core.Logic.{_⊎_, inl, inr}
-use Prim.Native.Nat.{ℕ, zero, suc, _+_, _*_, _/_, _<_, _≤_}
+use Prim.Native.Nat.{ℕ, zero, suc, _*_, _<_, _≤_}
 use native.Mathlib.Nat.{mul-pos, mul-div-cancel}
 use native.Mathlib.Omega.{arith}
 use Rattle.counts.proofs.TestLaws.{lt-or-le}

@@ -4,11 +4,10 @@
 --     precedes-before, precedes-same, precedes-past  by the dominating ends
 -- Assumes nothing.
 use mathlib.Core.Path.{_≡_, sym, ap₂}
-use mathlib.Core.Bool.{Bool, true, false, _&&_, _||_, cond}
+use mathlib.Core.Bool.{Bool, true, false, cond}
 use lib.Dec.{ltb}
 use Rattle.counts.specs.Count.{_⊕_}
 use Rattle.plane.specs.Points.{before, same}
-use Rattle.plane.specs.Turns.{turnsLeft, straight}
 use Rattle.grid.specs.Turning.{turnOf}
 use Rattle.grid.specs.declared.Turn.the-variants.{Left, Straight, Right}
 use Rattle.grid.proofs.TurnLaws.{left-is, right-is, straight-is}

@@ -8,11 +8,9 @@ use mathlib.Core.Path.{_≡_, refl, sym, ap, _∙_}
 use mathlib.Core.Bool.{Bool, true, false, not, cond, _&&_, _||_, true≢false}
 use mathlib.Core.List.{List}
 use Prim.Native.Nat.{ℕ, _*_, _<_, _≤_}
-use native.Mathlib.Omega.{arith}
-use lib.Dec.{ltb, leb}
 use lib.IntN.{ℤ}
 use lib.ListN.{length}
-use borrow.Author.Tests.{leb-true, leb-false, lt-leb, le-leb, lt-ltb, le-ltb}
+use borrow.Author.Tests.{leb-true, lt-leb, le-leb, lt-ltb, le-ltb}
 use Rattle.counts.specs.Scan.{firstFrom}
 use Rattle.counts.proofs.TestLaws.{and-true}
 use Rattle.plane.specs.declared.Point.{Point}

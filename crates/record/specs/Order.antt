@@ -16,7 +16,6 @@ use mathlib.Core.Bool.{Bool, false, _&&_, _||_, cond}
 use Prim.Native.Nat.{ℕ, _+_, _-_, _*_, _≤_}
 use lib.Dec.{ltb}
 use Rattle.counts.specs.Count.{_⊕_}
-use Rattle.plane.specs.declared.Point.{Point}
 use Rattle.plane.specs.Points.{before, same}
 use Rattle.plane.specs.Turns.{turnsLeft, straight, largestProduct}
 use Rattle.record.specs.declared.Record.{Record}

@@ -1,10 +1,6 @@
 -- `Coord::of_wide` meets its contract: a test past an end is Off, and past neither the number fits. Assumes nothing.
-use mathlib.Core.Path.{_≡_}
-use mathlib.Core.Bool.{true, false}
 use mir.Syntax.{w16, w64}
 use mir.ValLaws.{toZ-ofZ}
-use lib.IntN.{pos, negsuc}
-use lib.Signed.{ltZ}
 use Rattle.grid.proofs.CoordinateLaws.{located-low, located-high, located-on, on-fits}
 use Rattle.grid.proofs.Coord.of_wide.Statement.{statement}
 use Rattle.grid.proofs.Coord.of_wide.Tie as tie
