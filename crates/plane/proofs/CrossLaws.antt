@@ -1,8 +1,8 @@
 -- From the test to the statement: two segments that pass the test touch, and are distinct.
---     between-touch   an end of one strictly between the ends of the other is a shared point
---     four-areas      the areas of the four ends over the two lines, joined in one equation
---     way-touch       each way to pass the test gives the shared point: the areas are its weights
---     way-distinct    and a segment has no such way with itself
+--     between-touch       an end of one strictly between the ends of the other is a shared point
+--     four-areas          the areas of the four ends over the two lines, joined in one equation
+--     contact-touch       each contact gives the shared point: at a crossing the areas are its weights
+--     contact-distinct    and a segment has no contact with itself
 -- The area of q over a b, signed and doubled, is `plus a b q` less `minus a b q`. Assumes nothing.
 use mathlib.Core.Path.{_≡_, refl, sym, ap, subst}
 use mathlib.Core.Logic.{inl, inr}
@@ -15,7 +15,8 @@ use Rattle.plane.specs.Touching.{Touch}
 use Rattle.plane.proofs.PointLaws.{before-irrefl}
 use Rattle.plane.proofs.SideLaws.{Left, Right, Apart, splits-true, within-true}
 use Rattle.plane.proofs.WithinLaws.{EndOf, Between, within-between}
-use Rattle.plane.proofs.WayLaws.{touch-sym, Way, crossing, a-within-s, b-within-s, a-within-t, b-within-t}
+use Rattle.plane.proofs.ContactLaws.{touch-sym, Contact}
+use Rattle.plane.proofs.ContactLaws.{crossing, a-within-s, b-within-s, a-within-t, b-within-t}
 
 -- an end of t strictly between the ends of s is a shared point
 pub between-touch : (s t : Segment) (d : Point) → Between s d → EndOf t d → Touch s t
@@ -91,24 +92,24 @@ crossing-touch s t (inr h) (inl g) = touch-sym (cross t s (g .0) (g .1) (h .0) (
 crossing-touch s t (inl h) (inl g) = absurd (omega (arith, four-areas (s .a) (s .b) (t .a) (t .b)))
 crossing-touch s t (inr h) (inr g) = absurd (omega (arith, four-areas (s .a) (s .b) (t .a) (t .b)))
 
-pub way-touch : (s t : Segment) → Way s t → Touch s t
-way-touch s t (crossing g h) = crossing-touch s t (splits-true s t g) (splits-true t s h)
-way-touch s t (a-within-s h) = between-touch s t (t .a) (within-between _ _ h) (inl refl)
-way-touch s t (b-within-s h) = between-touch s t (t .b) (within-between _ _ h) (inr refl)
-way-touch s t (a-within-t h) = touch-sym (between-touch t s (s .a) (within-between _ _ h) (inl refl))
-way-touch s t (b-within-t h) = touch-sym (between-touch t s (s .b) (within-between _ _ h) (inr refl))
+pub contact-touch : (s t : Segment) → Contact s t → Touch s t
+contact-touch s t (crossing g h) = crossing-touch s t (splits-true s t g) (splits-true t s h)
+contact-touch s t (a-within-s h) = between-touch s t (t .a) (within-between _ _ h) (inl refl)
+contact-touch s t (b-within-s h) = between-touch s t (t .b) (within-between _ _ h) (inr refl)
+contact-touch s t (a-within-t h) = touch-sym (between-touch t s (s .a) (within-between _ _ h) (inl refl))
+contact-touch s t (b-within-t h) = touch-sym (between-touch t s (s .b) (within-between _ _ h) (inr refl))
 
--- a segment has no such way with itself
-way-self : (s : Segment) → Way s s → ⊥
-way-self s (crossing g h) = go (splits-true s s g)
+-- a segment has no contact with itself
+contact-self : (s : Segment) → Contact s s → ⊥
+contact-self s (crossing g h) = go (splits-true s s g)
   where
     go : Apart (s .a) (s .b) (s .a) (s .b) → ⊥
     go (inl l) = omega arith
     go (inr l) = omega arith
-way-self s (a-within-s h) = before-irrefl (s .a) (within-true s (s .a) h .0)
-way-self s (b-within-s h) = before-irrefl (s .b) (within-true s (s .b) h .1)
-way-self s (a-within-t h) = before-irrefl (s .a) (within-true s (s .a) h .0)
-way-self s (b-within-t h) = before-irrefl (s .b) (within-true s (s .b) h .1)
+contact-self s (a-within-s h) = before-irrefl (s .a) (within-true s (s .a) h .0)
+contact-self s (b-within-s h) = before-irrefl (s .b) (within-true s (s .b) h .1)
+contact-self s (a-within-t h) = before-irrefl (s .a) (within-true s (s .a) h .0)
+contact-self s (b-within-t h) = before-irrefl (s .b) (within-true s (s .b) h .1)
 
-pub way-distinct : (s t : Segment) → Way s t → s ≡ t → ⊥
-way-distinct s t w e = way-self s (subst (λ u. Way s u) (sym e) w)
+pub contact-distinct : (s t : Segment) → Contact s t → s ≡ t → ⊥
+contact-distinct s t w e = contact-self s (subst (λ u. Contact s u) (sym e) w)

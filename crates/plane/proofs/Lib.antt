@@ -7,7 +7,7 @@ pub mod MeetLaws
 pub mod HeightLaws
 pub mod SideLaws
 pub mod WithinLaws
-pub mod WayLaws
+pub mod ContactLaws
 pub mod CrossLaws
 pub mod SharedLaws
 pub mod TouchLaws

@@ -36,40 +36,40 @@ module _ {s : Segment} {N w q p : ℕ} (r : Read s N w q p) where
       let f : 2 * s .a .x + r .i + r .j ≡ 2 * s .b .x = omega arith in
       ap (λ n. r .j * (2 * s .a .x) + r .i * n) (sym f) ∙ e ∙ ap₂ _*_ (r .wide) (r .lo)
 
--- a point of both, u parts at column p and v parts at column p′
-module _ {s t : Segment} {N w q w₂ q₂ p p′ : ℕ} (S : Read s N w q p) (S′ : Read s N w q p′)
-    (T : Read t N w₂ q₂ p) (T′ : Read t N w₂ q₂ p′) (u v : ℕ) (pos : 0 < N) where
-  one-x : {s : Segment} {w q : ℕ} (k : ℕ) (S : Read s N w q p) (S′ : Read s N w q p′)
-      → 2 * ((u * S .j + v * S′ .j) * k * (s .a .x) + (u * S .i + v * S′ .i) * k * (s .b .x)) ≡ k * w * (u * p + v * p′)
-  one-x k S S′ = omega (arith, ap (λ n. k * u * n) (read-x S), ap (λ n. k * v * n) (read-x S′))
+-- a point of both, u parts at half column p and v parts at half column k: S and R read s there, T and U read t
+module _ {s t : Segment} {N w q z r p k : ℕ} (S : Read s N w q p) (R : Read s N w q k)
+    (T : Read t N z r p) (U : Read t N z r k) (u v : ℕ) (pos : 0 < N) where
+  one-x : {s : Segment} {w q : ℕ} (m : ℕ) (S : Read s N w q p) (R : Read s N w q k)
+      → 2 * ((u * S .j + v * R .j) * m * (s .a .x) + (u * S .i + v * R .i) * m * (s .b .x)) ≡ m * w * (u * p + v * k)
+  one-x m S R = omega (arith, ap (λ n. m * u * n) (read-x S), ap (λ n. m * v * n) (read-x R))
 
-  one-total : {s : Segment} {w q : ℕ} (k : ℕ) (S : Read s N w q p) (S′ : Read s N w q p′)
-      → (u * S .j + v * S′ .j) * k + (u * S .i + v * S′ .i) * k ≡ k * w * (u + v)
-  one-total k S S′ = omega (arith, ap (λ n. k * u * n) (S .wide), ap (λ n. k * v * n) (S′ .wide))
+  one-total : {s : Segment} {w q : ℕ} (m : ℕ) (S : Read s N w q p) (R : Read s N w q k)
+      → (u * S .j + v * R .j) * m + (u * S .i + v * R .i) * m ≡ m * w * (u + v)
+  one-total m S R = omega (arith, ap (λ n. m * u * n) (S .wide), ap (λ n. m * v * n) (R .wide))
 
-  one-y : {s : Segment} {w q : ℕ} (k : ℕ) (S : Read s N w q p) (S′ : Read s N w q p′)
-      → N * ((u * S .j + v * S′ .j) * k * (s .a .y) + (u * S .i + v * S′ .i) * k * (s .b .y))
-      ≡ k * w * (u * level S + v * level S′)
-  one-y {s} {w} {q} k S S′ =
-      ap (λ n. n * ((u * S .j + v * S′ .j) * k * (s .a .y) + (u * S .i + v * S′ .i) * k * (s .b .y))) (sym (S .unit))
+  one-y : {s : Segment} {w q : ℕ} (m : ℕ) (S : Read s N w q p) (R : Read s N w q k)
+      → N * ((u * S .j + v * R .j) * m * (s .a .y) + (u * S .i + v * R .i) * m * (s .b .y))
+      ≡ m * w * (u * level S + v * level R)
+  one-y {s} {w} {q} m S R =
+      ap (λ n. n * ((u * S .j + v * R .j) * m * (s .a .y) + (u * S .i + v * R .i) * m * (s .b .y))) (sym (S .unit))
       ∙ omega arith
 
-  pub meet : u * level S + v * level S′ ≡ u * level T + v * level T′
-      → 0 < w → 0 < w₂ → 0 < u * S .j + v * S′ .j → 0 < u * S .i + v * S′ .i → Touch s t
-  meet e hw hw₂ hj hi = record {
-    α = (u * S .j + v * S′ .j) * w₂;
-    β = (u * S .i + v * S′ .i) * w₂;
-    γ = (u * T .j + v * T′ .j) * w;
-    δ = (u * T .i + v * T′ .i) * w;
-    total = one-total w₂ S S′ ∙ turn (u + v) ∙ sym (one-total w T T′);
-    on-x = eq-of-mul-eq-mul-left 2 (omega arith) _ _ (one-x w₂ S S′ ∙ turn (u * p + v * p′) ∙ sym (one-x w T T′));
+  pub meet : u * level S + v * level R ≡ u * level T + v * level U
+      → 0 < w → 0 < z → 0 < u * S .j + v * R .j → 0 < u * S .i + v * R .i → Touch s t
+  meet e hw hz hj hi = record {
+    α = (u * S .j + v * R .j) * z;
+    β = (u * S .i + v * R .i) * z;
+    γ = (u * T .j + v * U .j) * w;
+    δ = (u * T .i + v * U .i) * w;
+    total = one-total z S R ∙ turn (u + v) ∙ sym (one-total w T U);
+    on-x = eq-of-mul-eq-mul-left 2 (omega arith) _ _ (one-x z S R ∙ turn (u * p + v * k) ∙ sym (one-x w T U));
     on-y = eq-of-mul-eq-mul-left N pos _ _
-        (one-y w₂ S S′ ∙ turn (u * level S + v * level S′) ∙ ap (λ n. w * w₂ * n) e ∙ sym (one-y w T T′));
-    inner = inl (mul-pos hj hw₂, mul-pos hi hw₂);
+        (one-y z S R ∙ turn (u * level S + v * level R) ∙ ap (λ n. w * z * n) e ∙ sym (one-y w T U));
+    inner = inl (mul-pos hj hz, mul-pos hi hz);
   }
     where
-      turn : (n : ℕ) → w₂ * w * n ≡ w * w₂ * n
-      turn n = ap (λ m. m * n) (mul-comm w₂ w)
+      turn : (n : ℕ) → z * w * n ≡ w * z * n
+      turn n = ap (λ l. l * n) (mul-comm z w)
 
 -- a vertical t across the inside of s
 module _ {s t : Segment} {N w q c : ℕ} (S : Read s N w q (2 * c)) (pos : 0 < N)

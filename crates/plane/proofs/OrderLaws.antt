@@ -23,7 +23,7 @@ use Rattle.plane.specs.declared.Segment.{Segment}
 use Rattle.plane.specs.Touching.{Touch}
 use Rattle.plane.specs.Heights.{Scale, Spans, Inside, height, key}
 use Rattle.plane.proofs.WithinLaws.{EndOf, Between}
-use Rattle.plane.proofs.WayLaws.{touch-sym}
+use Rattle.plane.proofs.ContactLaws.{touch-sym}
 use Rattle.plane.proofs.CrossLaws.{between-touch}
 use Rattle.plane.proofs.HeightLaws.{height-a, height-b, touch-level, touch-cross, touch-upright}
 

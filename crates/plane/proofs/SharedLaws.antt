@@ -1,7 +1,7 @@
 -- From the statement to the test: two distinct segments that share a point inside one of them pass the test.
---     balance      where a mean of c and d is one of a and b, the areas of c and d over a b cancel by the same weights
---     touch-way    so c and d lie on different sides of a b, or all four in line; in line, the order of the ends tells
---                  the way
+--     balance          where a mean of c and d is one of a and b, the areas of c and d over a b cancel by its weights
+--     touch-contact    so c and d lie on different sides of a b, or all four in line; in line, the order of the ends
+--                      tells the contact
 -- Assumes nothing.
 use mathlib.Core.Path.{_≡_, sym, ap, _∙_}
 use mathlib.Core.Logic.{_⊎_, inl, inr}
@@ -19,7 +19,8 @@ use Rattle.plane.specs.Touching.{Touch}
 use Rattle.plane.proofs.PointLaws.{Before, before-true, before-intro, trichotomy}
 use Rattle.plane.proofs.SideLaws.{Left, Right, Level, Apart, splits-intro, within-intro}
 use Rattle.plane.proofs.WithinLaws.{Between, within-is}
-use Rattle.plane.proofs.WayLaws.{touch-sym, Way, crossing, a-within-s, b-within-s, a-within-t, b-within-t}
+use Rattle.plane.proofs.ContactLaws.{touch-sym, Contact}
+use Rattle.plane.proofs.ContactLaws.{crossing, a-within-s, b-within-s, a-within-t, b-within-t}
 use Rattle.plane.proofs.CrossLaws.{four-areas}
 
 -- one of the two sums of an area, at a mean of (cx, cy) and (dx, dy)
@@ -115,11 +116,11 @@ ahead s t T f g hα hδ = before-intro (t .a) (s .b) (go (before-true (s .a) (s 
 -- all four ends in line: by the order of the ends, one of them lies within the other segment
 in-line : (s t : Segment) → before (t .a) (s .b) ≡ true → before (s .a) (t .b) ≡ true
     → Level (s .a) (s .b) (t .a) × Level (s .a) (s .b) (t .b) → Level (t .a) (t .b) (s .a) × Level (t .a) (t .b) (s .b)
-    → (s ≡ t → ⊥) → Way s t
+    → (s ≡ t → ⊥) → Contact s t
 in-line s t cb ad lt ls differ = go (trichotomy (s .a) (t .a)) (trichotomy (s .b) (t .b))
   where
     go : (before (s .a) (t .a) ≡ true) ⊎ ((s .a ≡ t .a) ⊎ (before (t .a) (s .a) ≡ true))
-        → (before (s .b) (t .b) ≡ true) ⊎ ((s .b ≡ t .b) ⊎ (before (t .b) (s .b) ≡ true)) → Way s t
+        → (before (s .b) (t .b) ≡ true) ⊎ ((s .b ≡ t .b) ⊎ (before (t .b) (s .b) ≡ true)) → Contact s t
     go (inl h) k = a-within-s (within-intro s (t .a) h cb (lt .0))
     go (inr (inr h)) k = a-within-t (within-intro t (s .a) h ad (ls .0))
     go (inr (inl h)) (inl k) = b-within-t (within-intro t (s .b) cb k (ls .1))
@@ -127,14 +128,14 @@ in-line s t cb ad lt ls differ = go (trichotomy (s .a) (t .a)) (trichotomy (s .b
     go (inr (inl h)) (inr (inl k)) = absurd (differ (λ i. record { a = h i; b = k i }))
 
 -- strictly between the ends of both
-inner-way : (s t : Segment) (T : Touch s t) → Forward s → Forward t → 0 < T .α → 0 < T .β → 0 < T .γ → 0 < T .δ
-    → (s ≡ t → ⊥) → Way s t
+inner-contact : (s t : Segment) (T : Touch s t) → Forward s → Forward t → 0 < T .α → 0 < T .β → 0 < T .γ → 0 < T .δ
+    → (s ≡ t → ⊥) → Contact s t
 unfolding touch-sym
-inner-way s t T f g hα hβ hγ hδ differ =
+inner-contact s t T f g hα hβ hγ hδ differ =
     go (touch-sides s t T hγ hδ) (touch-sides t s (touch-sym T) hα hβ)
   where
     go : Apart (s .a) (s .b) (t .a) (t .b) ⊎ (Level (s .a) (s .b) (t .a) × Level (s .a) (s .b) (t .b))
-        → Apart (t .a) (t .b) (s .a) (s .b) ⊎ (Level (t .a) (t .b) (s .a) × Level (t .a) (t .b) (s .b)) → Way s t
+        → Apart (t .a) (t .b) (s .a) (s .b) ⊎ (Level (t .a) (t .b) (s .a) × Level (t .a) (t .b) (s .b)) → Contact s t
     go (inl h) (inl k) = crossing (splits-intro s t h) (splits-intro t s k)
     go (inl (inl h)) (inr k) = absurd (omega (arith, four-areas (s .a) (s .b) (t .a) (t .b)))
     go (inl (inr h)) (inr k) = absurd (omega (arith, four-areas (s .a) (s .b) (t .a) (t .b)))
@@ -143,8 +144,9 @@ inner-way s t T f g hα hβ hγ hδ differ =
     go (inr h) (inr k) = in-line s t (ahead s t T f g hα hδ) (ahead t s (touch-sym T) g f hγ hβ) h k differ
 
 -- strictly between the ends of s: at an end of t, or strictly between those too
-pub touch-way : (s t : Segment) (T : Touch s t) → Forward s → Forward t → 0 < T .α → 0 < T .β → (s ≡ t → ⊥) → Way s t
-touch-way s t T f g hα hβ differ = go (eq-zero-or-pos (T .γ)) (eq-zero-or-pos (T .δ))
+pub touch-contact : (s t : Segment) (T : Touch s t) → Forward s → Forward t → 0 < T .α → 0 < T .β → (s ≡ t → ⊥)
+    → Contact s t
+touch-contact s t T f g hα hβ differ = go (eq-zero-or-pos (T .γ)) (eq-zero-or-pos (T .δ))
   where
     at-b : T .γ ≡ 0 → Between s (t .b)
     at-b z = record {
@@ -166,7 +168,7 @@ touch-way s t T f g hα hβ differ = go (eq-zero-or-pos (T .γ)) (eq-zero-or-pos
       on-y = omega (arith, T .on-y, ap (λ n. n * t .a .y) (T .total), ap (λ n. n * t .a .y) z, ap (λ n. n * t .b .y) z);
     }
 
-    go : (T .γ ≡ 0) ⊎ (0 < T .γ) → (T .δ ≡ 0) ⊎ (0 < T .δ) → Way s t
+    go : (T .γ ≡ 0) ⊎ (0 < T .γ) → (T .δ ≡ 0) ⊎ (0 < T .δ) → Contact s t
     go (inl z) d = b-within-s (within-is s (t .b) f .1 (at-b z))
     go (inr hγ) (inl z) = a-within-s (within-is s (t .a) f .1 (at-a z))
-    go (inr hγ) (inr hδ) = inner-way s t T f g hα hβ hγ hδ differ
+    go (inr hγ) (inr hδ) = inner-contact s t T f g hα hβ hγ hδ differ

@@ -1,7 +1,7 @@
--- Touching minds no order of the two segments, and the test passes in five ways.
+-- Touching minds no order of the two segments, and the test passes at five kinds of contact.
 --     touch-sym, touches-sym          the statement and the test are the same the other way round
---     Way s t                         they cross, or one of the four ends lies within the other segment
---     touches-true, touches-intro     the test passes exactly in these ways
+--     Contact s t                     they cross, or one of the four ends lies within the other segment
+--     touches-true, touches-intro     the test passes exactly at a contact
 -- Assumes nothing.
 use mathlib.Core.Path.{_≡_, refl, sym, ap, _∙_}
 use mathlib.Core.Logic.{_⊎_, inl, inr}
@@ -40,37 +40,37 @@ touches-sym s t =
     go true p q r u = refl
     go false p q r u = any-swap p q r u
 
--- the five ways to touch
-pub data Way (s t : Segment) : Type 0 where
-  crossing : splits s t ≡ true → splits t s ≡ true → Way s t
-  a-within-s : within s (t .a) ≡ true → Way s t
-  b-within-s : within s (t .b) ≡ true → Way s t
-  a-within-t : within t (s .a) ≡ true → Way s t
-  b-within-t : within t (s .b) ≡ true → Way s t
+-- the five kinds of contact
+pub data Contact (s t : Segment) : Type 0 where
+  crossing : splits s t ≡ true → splits t s ≡ true → Contact s t
+  a-within-s : within s (t .a) ≡ true → Contact s t
+  b-within-s : within s (t .b) ≡ true → Contact s t
+  a-within-t : within t (s .a) ≡ true → Contact s t
+  b-within-t : within t (s .b) ≡ true → Contact s t
 
-pub touches-true : (s t : Segment) → touches s t ≡ true → Way s t
+pub touches-true : (s t : Segment) → touches s t ≡ true → Contact s t
 unfolding touches
 touches-true s t e = go (or-true _ _ e)
   where
-    pair : (splits s t && splits t s ≡ true) ⊎ (within s (t .a) ≡ true) → Way s t
+    pair : (splits s t && splits t s ≡ true) ⊎ (within s (t .a) ≡ true) → Contact s t
     pair (inl h) = let g = and-true _ _ h in crossing (g .0) (g .1)
     pair (inr h) = a-within-s h
 
-    three : ((splits s t && splits t s) || within s (t .a) ≡ true) ⊎ (within s (t .b) ≡ true) → Way s t
+    three : ((splits s t && splits t s) || within s (t .a) ≡ true) ⊎ (within s (t .b) ≡ true) → Contact s t
     three (inl h) = pair (or-true _ _ h)
     three (inr h) = b-within-s h
 
     four : ((splits s t && splits t s) || within s (t .a) || within s (t .b) ≡ true) ⊎ (within t (s .a) ≡ true)
-        → Way s t
+        → Contact s t
     four (inl h) = three (or-true _ _ h)
     four (inr h) = a-within-t h
 
     go : ((splits s t && splits t s) || within s (t .a) || within s (t .b) || within t (s .a) ≡ true)
-        ⊎ (within t (s .b) ≡ true) → Way s t
+        ⊎ (within t (s .b) ≡ true) → Contact s t
     go (inl h) = four (or-true _ _ h)
     go (inr h) = b-within-t h
 
-pub touches-intro : (s t : Segment) → Way s t → touches s t ≡ true
+pub touches-intro : (s t : Segment) → Contact s t → touches s t ≡ true
 unfolding touches
 touches-intro s t (crossing g h) = or-left _ (or-left _ (or-left _ (or-left _ (and-intro g h))))
 touches-intro s t (a-within-s h) = or-left _ (or-left _ (or-left _ (or-right (splits s t && splits t s) h)))
