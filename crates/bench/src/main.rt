@@ -227,29 +227,23 @@ fn runs() {
         0,
         1,
     ];
-    say_part(
-        b"the run at (0,0)",
-        record::parts::run_at(&square, point_of(0, 0)),
-    );
-    say_part(
-        b"the run at (4,4)",
-        record::parts::run_at(&square, point_of(4, 4)),
-    );
+    say_part(b"the run at (0,0)", parts::run_at(&square, point_of(0, 0)));
+    say_part(b"the run at (4,4)", parts::run_at(&square, point_of(4, 4)));
     say_part(
         b"the run at (2,0), inside a side",
-        record::parts::run_at(&square, point_of(2, 0)),
+        parts::run_at(&square, point_of(2, 0)),
     );
     say_part(
         b"the run at (4,4) of 39 numbers",
-        record::parts::run_at(&square[0..39], point_of(4, 4)),
+        parts::run_at(&square[0..39], point_of(4, 4)),
     );
     say_part(
         b"the run at (0,0) of 7 numbers",
-        record::parts::run_at(&square[0..7], point_of(0, 0)),
+        parts::run_at(&square[0..7], point_of(0, 0)),
     );
     say_part(
         b"the run at (0,0) of no numbers",
-        record::parts::run_at(&square[0..0], point_of(0, 0)),
+        parts::run_at(&square[0..0], point_of(0, 0)),
     );
 }
 
@@ -258,32 +252,29 @@ fn heads() {
     let high: [i16; 5] = [32767, 32767, -32768, -32768, 0];
     let twin: [i16; 5] = [-32768, -32768, 32767, 32767, 0];
     let flat: [i16; 5] = [-32768, -32768, -32768, -32768, 0];
-    say_part(
-        b"the smaller head",
-        record::parts::smaller_head(&low, &high),
-    );
+    say_part(b"the smaller head", parts::smaller_head(&low, &high));
     say_part(
         b"the smaller head, the other way round",
-        record::parts::smaller_head(&high, &low),
+        parts::smaller_head(&high, &low),
     );
     say_part(
         b"on a tie the first array's",
-        record::parts::smaller_head(&twin, &low),
+        parts::smaller_head(&twin, &low),
     );
     say_part(
         b"equal ends are a right half",
-        record::parts::smaller_head(&low, &flat),
+        parts::smaller_head(&low, &flat),
     );
     say_part(
         b"only the first has one",
-        record::parts::smaller_head(&high, &low[0..4]),
+        parts::smaller_head(&high, &low[0..4]),
     );
     say_part(
         b"only the second has one",
-        record::parts::smaller_head(&low[0..4], &high),
+        parts::smaller_head(&low[0..4], &high),
     );
     say_part(
         b"neither has one",
-        record::parts::smaller_head(&low[0..4], &high[0..4]),
+        parts::smaller_head(&low[0..4], &high[0..4]),
     );
 }

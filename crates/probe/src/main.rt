@@ -45,13 +45,10 @@ fn answer(s: &[u8], at: usize)
         say_order(a, b);
     }
     if letter == b'h' {
-        say_part(record::parts::smaller_head(&a[0..m], &b[0..n]));
+        say_part(parts::smaller_head(&a[0..m], &b[0..n]));
     }
     if letter == b'c' {
-        say_part(record::parts::run_at(
-            &a[0..m],
-            point(count_in(s, at + 84), count_in(s, at + 86)),
-        ));
+        say_part(parts::run_at(&a[0..m], point(count_in(s, at + 84), count_in(s, at + 86))));
     }
 }
 

@@ -4,5 +4,3 @@ pub mod HalfLaws
 pub mod LeadLaws
 pub mod OrderLaws
 pub mod CaseLaws
-pub mod PartLaws
-pub mod RunLaws

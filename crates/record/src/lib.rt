@@ -1,5 +1,5 @@
-// A record of a chart, read out of a chart array. The order of two records is in order.rt, the parts of an array that
-// hold records in parts.rt.
+// A record of a chart, read out of a chart array. The order of two records is in order.rt; the parts of an array that
+// hold records are the crate parts.
 ghost use mathlib.Core.Path.{_≡_};
 ghost use Prim.Native.Nat.{_+_, _*_, _≤_, _<_};
 ghost use lib.ListN.{length};
@@ -8,7 +8,6 @@ ghost use Rattle.record.specs.Order.{left, otherHalf};
 use plane::Point;
 
 pub mod order;
-pub mod parts;
 
 // How many numbers a record takes in a chart array.
 pub const WIDTH: usize = 5;

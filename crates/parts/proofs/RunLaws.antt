@@ -1,0 +1,122 @@
+-- In an array in record order the run at a corner is all the records there, and no others.
+--     InOrder s      each record comes strictly after the one before
+--     doms-rise      so no later record has a smaller dominating end
+--     run-only       what lies in the run, of any array, is at the corner
+--     run-all        what is at the corner lies in the run, of an array in order
+-- Assumes nothing.
+use mathlib.Core.Path.{_≡_, sym, ap, _∙_}
+use mathlib.Core.Logic.{_⊎_, inl, inr}
+use mathlib.Core.Bool.{true, false, _&&_, true≢false}
+use mathlib.Core.List.{List}
+use Prim.Native.Nat.{ℕ, zero, suc, _+_, _-_, _<_, _≤_, zero-le}
+use native.Mathlib.Nat.{add-zero, add-suc, add-sub-of-le}
+use native.Mathlib.Omega.{arith}
+use lib.IntN.{ℤ}
+use borrow.Author.Tests.{not-true, not-false}
+use Rattle.counts.specs.Scan.{firstFrom}
+use Rattle.counts.proofs.TestLaws.{or-true, and-true, is-false, lt-or-le}
+use Rattle.counts.proofs.ScanLaws.{firstFrom-low, firstFrom-high, firstFrom-passes, firstFrom-fails}
+use Rattle.plane.specs.declared.Point.{Point}
+use Rattle.plane.specs.Points.{before, same}
+use Rattle.plane.proofs.PointLaws.{before-irrefl, before-trans, before-once, trichotomy, same-true, same-refl}
+use Rattle.record.specs.declared.Record.{Record}
+use Rattle.record.specs.Records.{recordAt, recordCount}
+use Rattle.record.specs.Order.{earlier, precedes}
+use Rattle.parts.specs.Parts.{atCorner, offCorner, firstThere}
+
+abbrev pub InOrder : List ℤ → Type 0
+InOrder s = (i : ℕ) → suc i < recordCount s → precedes (recordAt s i) (recordAt s (suc i)) ≡ true
+
+-- a record that comes first has no greater dominating end
+first-dom : (r e : Record) → precedes r e ≡ true → before (e .dom) (r .dom) ≡ false
+unfolding precedes
+first-dom r e h = is-false _ (λ back. by-case (or-true (before (r .dom) (e .dom)) _ h) back)
+  where
+    by-case : (before (r .dom) (e .dom) ≡ true) ⊎ (same (r .dom) (e .dom) && earlier r e ≡ true)
+        → before (e .dom) (r .dom) ≡ true → ⊥
+    by-case (inl g) back = before-once (r .dom) (e .dom) g back
+    by-case (inr g) back =
+        let one = same-true (r .dom) (e .dom) (and-true (same (r .dom) (e .dom)) _ g .0) in
+        before-irrefl (e .dom) (ap (λ p. before (e .dom) p) (sym one) ∙ back)
+
+-- not smaller, through a third point
+not-smaller : (p q r : Point) → before q p ≡ false → before r q ≡ false → before r p ≡ false
+not-smaller p q r h g = is-false _ (λ back. by-order (trichotomy p q) back)
+  where
+    by-order : (before p q ≡ true) ⊎ ((p ≡ q) ⊎ (before q p ≡ true)) → before r p ≡ true → ⊥
+    by-order (inl l) back = true≢false (sym (before-trans r p q back l) ∙ g)
+    by-order (inr (inl e)) back = true≢false (sym (ap (λ t. before r t) (sym e) ∙ back) ∙ g)
+    by-order (inr (inr l)) back = true≢false (sym l ∙ h)
+
+module _ (s : List ℤ) where
+  pub doms-rise : InOrder s → (i j : ℕ) → i ≤ j → j < recordCount s
+      → before (recordAt s j .dom) (recordAt s i .dom) ≡ false
+  doms-rise o i j l h = rw (sym (add-sub-of-le l)) (climb (j - i) (omega arith))
+    where
+      climb : (k : ℕ) → i + k < recordCount s → before (recordAt s (i + k) .dom) (recordAt s i .dom) ≡ false
+      climb zero g = rw add-zero (is-false _ (before-irrefl (recordAt s i .dom)))
+      climb (suc k) g =
+          rw add-suc
+          (not-smaller (recordAt s i .dom) (recordAt s (i + k) .dom) (recordAt s (suc (i + k)) .dom)
+          (climb k (omega arith))
+          (first-dom (recordAt s (i + k)) (recordAt s (suc (i + k))) (o (i + k) (omega arith))))
+
+  module _ (p : Point) where
+    -- the first place past the run
+    abbrev pub past : ℕ
+    past = firstFrom (offCorner p) (recordAt s) (firstThere s p) (recordCount s)
+
+    in-range : firstThere s p ≤ recordCount s
+    in-range = firstFrom-high (atCorner p) (recordAt s) 0 (recordCount s) zero-le
+
+    pub run-only : (i : ℕ) → firstThere s p ≤ i → i < past → atCorner p (recordAt s i) ≡ true
+    run-only i h l =
+        not-false _ (firstFrom-fails (offCorner p) (recordAt s) (firstThere s p) (recordCount s) in-range i h l)
+
+    pub run-all : InOrder s → (i : ℕ) → i < recordCount s → atCorner p (recordAt s i) ≡ true
+        → (firstThere s p ≤ i) × (i < past)
+    run-all o i short there = (starts, ends (lt-or-le i past))
+      where
+        starts : firstThere s p ≤ i
+        starts = go (lt-or-le i (firstThere s p))
+          where
+            go : (i < firstThere s p) ⊎ (firstThere s p ≤ i) → firstThere s p ≤ i
+            go (inl l) =
+                absurd (true≢false (sym there
+                ∙ firstFrom-fails (atCorner p) (recordAt s) 0 (recordCount s) zero-le i zero-le l))
+            go (inr l) = l
+
+        -- between two records at p, in order, all are at p
+        between : (j : ℕ) → firstThere s p ≤ j → j ≤ i → atCorner p (recordAt s j) ≡ true
+        between j lo hi = by-order (trichotomy (recordAt s j .dom) p)
+          where
+            at-start : recordAt s (firstThere s p) .dom ≡ p
+            at-start =
+                same-true _ _
+                (firstFrom-passes (atCorner p) (recordAt s) 0 (recordCount s) zero-le (omega (arith, starts)))
+
+            at-end : recordAt s i .dom ≡ p
+            at-end = same-true _ _ there
+
+            by-order : (before (recordAt s j .dom) p ≡ true)
+                ⊎ ((recordAt s j .dom ≡ p) ⊎ (before p (recordAt s j .dom) ≡ true))
+                → atCorner p (recordAt s j) ≡ true
+            by-order (inl l) =
+                let low = doms-rise o (firstThere s p) j lo (omega arith) in
+                absurd (true≢false (sym l ∙ sym (ap (λ t. before (recordAt s j .dom) t) at-start) ∙ low))
+            by-order (inr (inl e)) = ap (λ t. same t p) e ∙ same-refl p
+            by-order (inr (inr l)) =
+                let high = doms-rise o j i hi short in
+                absurd (true≢false (sym l ∙ sym (ap (λ t. before t (recordAt s j .dom)) at-end) ∙ high))
+
+        ends : (i < past) ⊎ (past ≤ i) → i < past
+        ends (inl l) = l
+        ends (inr l) = absurd (true≢false (sym (between past low l) ∙ not-true _ off))
+          where
+            low : firstThere s p ≤ past
+            low = firstFrom-low (offCorner p) (recordAt s) (firstThere s p) (recordCount s) in-range
+
+            off : offCorner p (recordAt s past) ≡ true
+            off =
+                firstFrom-passes (offCorner p) (recordAt s) (firstThere s p) (recordCount s) in-range
+                (omega (arith, l))
