@@ -18,7 +18,8 @@ use Rattle.plane.specs.declared.Point.{Point}
 use Rattle.plane.specs.declared.Segment.{Segment}
 use Rattle.plane.specs.Turns.{plus, minus, turnsLeft, turnsRight, straight}
 use Rattle.plane.specs.Touching.{Touch}
-use Rattle.plane.specs.Heights.{Scale, Spans, Inside, height, above, on, below}
+use Rattle.plane.specs.Sides.{above, on, below}
+use Rattle.plane.proofs.Heights.{Scale, Spans, Inside, height}
 use Rattle.plane.proofs.MeetLaws.{Read, level, meet, meet-vertical}
 
 -- ---- numbers

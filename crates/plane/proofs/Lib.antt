@@ -1,3 +1,4 @@
+pub mod Heights
 pub mod PointLaws
 pub mod DifferenceLaws
 pub mod DeterminantLaws

@@ -21,7 +21,7 @@ use Rattle.counts.proofs.TestLaws.{tests, lt-or-le, Side, less, equal, more, si
 use Rattle.plane.specs.declared.Point.{Point}
 use Rattle.plane.specs.declared.Segment.{Segment}
 use Rattle.plane.specs.Touching.{Touch}
-use Rattle.plane.specs.Heights.{Scale, Spans, Inside, height, key}
+use Rattle.plane.proofs.Heights.{Scale, Spans, Inside, height, key}
 use Rattle.plane.proofs.WithinLaws.{EndOf, Between}
 use Rattle.plane.proofs.ContactLaws.{touch-sym}
 use Rattle.plane.proofs.CrossLaws.{between-touch}

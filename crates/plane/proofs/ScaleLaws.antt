@@ -7,7 +7,7 @@ use Prim.Native.Nat.{ℕ, zero, suc, _*_, _<_, _≤_}
 use native.Mathlib.Nat.{mul-pos, mul-div-cancel}
 use native.Mathlib.Omega.{arith}
 use Rattle.counts.proofs.TestLaws.{lt-or-le}
-use Rattle.plane.specs.Heights.{Scale}
+use Rattle.plane.proofs.Heights.{Scale}
 
 unfoldable factorial : ℕ → ℕ
 factorial zero = 1

@@ -1,4 +1,4 @@
 pub mod Points
 pub mod Turns
 pub mod Touching
-pub mod Heights
+pub mod Sides

@@ -1,20 +1,16 @@
--- Heights of segments as whole numbers, and where a point lies to a segment.
+-- Heights of segments as whole numbers: a device of the proofs. No contract and no promise speaks of them; what they say
+-- of a point and a segment is said by turns (specs/Sides.antt), and `above-is`, `on-is` and `below-is` join the two.
 -- A height is taken at a half column: k is the column k / 2, so a column is 2 * c and the middle of the strip between
--- columns x and x + 1 is 2 * x + 1. It is scaled by 2 * M, where M is a multiple of every width, so it is whole and
--- exact.
+-- columns x and x + 1 is 2 * x + 1. It is scaled by 2 * M, where M is a multiple of every width, so it is whole.
 --     Scale M         every width from 1 to 65,535 divides M
 --     height M s k    2 * M times the height of s at half column k, for s not vertical and k between its ends
 --     key M s x       the height in the middle of the strip from column x to column x + 1
 --     Spans s k       s is not vertical, and k lies between its ends or at one
 --     Inside s k      k lies strictly between them
---     above p s, on p s, below p s    p lies above the line of s, on it, below it, for s not vertical: three turns
 -- Assumes nothing.
 use mathlib.Core.Path.{_≡_}
-use mathlib.Core.Bool.{Bool}
 use Prim.Native.Nat.{ℕ, _+_, _-_, _*_, _/_, _<_, _≤_}
-use Rattle.plane.specs.declared.Point.{Point}
 use Rattle.plane.specs.declared.Segment.{Segment}
-use Rattle.plane.specs.Turns.{turnsLeft, turnsRight, straight}
 
 pub record Scale (M : ℕ) : Type 0 where
   pub positive : 0 < M
@@ -35,12 +31,3 @@ pub record Spans (s : Segment) (k : ℕ) : Type 0 where
 pub record Inside (s : Segment) (k : ℕ) : Type 0 where
   pub past : 2 * s .a .x < k
   pub ahead : k < 2 * s .b .x
-
-abbrev pub above : Point → Segment → Bool
-above p s = turnsLeft (s .a) (s .b) p
-
-abbrev pub on : Point → Segment → Bool
-on p s = straight (s .a) (s .b) p
-
-abbrev pub below : Point → Segment → Bool
-below p s = turnsRight (s .a) (s .b) p
