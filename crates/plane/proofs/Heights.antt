@@ -1,5 +1,5 @@
--- Heights of segments as whole numbers: a device of the proofs. No contract and no promise speaks of them; what they say
--- of a point and a segment is said by turns (specs/Sides.antt), and `above-is`, `on-is` and `below-is` join the two.
+-- Heights of segments as whole numbers: a device of the proofs. No contract and no promise speaks of them; what they
+-- say of a point and a segment is said by turns (specs/Sides.antt), and `above-is`, `on-is`, `below-is` join the two.
 -- A height is taken at a half column: k is the column k / 2, so a column is 2 * c and the middle of the strip between
 -- columns x and x + 1 is 2 * x + 1. It is scaled by 2 * M, where M is a multiple of every width, so it is whole.
 --     Scale M         every width from 1 to 65,535 divides M

@@ -13,3 +13,4 @@ pub mod CrossLaws
 pub mod SharedLaws
 pub mod TouchLaws
 pub mod OrderLaws
+pub mod TouchExamples
