@@ -3,14 +3,17 @@
 --     and-true, and-intro, or-true, or-left, or-right    tests joined by 'and' and 'or'
 --     and-comm, is-false, same-test, xor-back, xor-self    of Booleans
 --     lt-or-le, Side, side                  of two numbers, by cases
+--     leb-not, eqb-swap                     of tests on two numbers
 -- Assumes nothing.
-use mathlib.Core.Path.{_≡_, refl, sym, ap, ap₂}
-use mathlib.Core.Logic.{_⊎_, inl, inr}
-use mathlib.Core.Bool.{Bool, true, false, _&&_, _||_, true≢false}
+use mathlib.Core.Path.{_≡_, refl, sym, ap, ap₂, _∙_}
+use mathlib.Core.Logic.{_⊎_, inl, inr, ⊎-elim}
+use mathlib.Core.Bool.{Bool, true, false, not, _&&_, _||_, true≢false}
 use Prim.Native.Nat.{ℕ, _<_, _≤_}
 use native.Mathlib.Decide.{decLt}
 use native.Mathlib.Omega.{arith}
+use lib.Dec.{ltb, leb, eqb}
 use borrow.Author.Tests.{ltb-true, ltb-false, leb-true, leb-false, eqb-true, eqb-false}
+use borrow.Author.Tests.{lt-ltb, le-ltb, le-leb, lt-leb, eq-eqb}
 use Rattle.counts.specs.Count.{_⊕_}
 
 pub ruleset tests = (ltb-true, ltb-false, leb-true, leb-false, eqb-true, eqb-false)
@@ -83,3 +86,14 @@ side m n = go (lt-or-le m n) (lt-or-le n m)
     go (inl h) g = less h
     go (inr h) (inl g) = more g
     go (inr h) (inr g) = equal (omega arith)
+
+-- ---- tests on two numbers
+
+pub leb-not : (m n : ℕ) → leb m n ≡ not (ltb n m)
+leb-not m n =
+    ⊎-elim (λ l. lt-leb m n l ∙ ap not (sym (lt-ltb n m l))) (λ l. le-leb m n l ∙ ap not (sym (le-ltb n m l)))
+    (lt-or-le n m)
+
+pub eqb-swap : (m n : ℕ) → eqb m n ≡ eqb n m
+eqb-swap m n =
+    same-test (eqb m n) (eqb n m) (λ e. eq-eqb n m (sym (eqb-true m n e))) (λ e. eq-eqb m n (sym (eqb-true n m e)))

@@ -8,23 +8,17 @@
 --     up-difference       and every difference, so directions and determinants are the same counted or signed
 -- Assumes nothing.
 use mathlib.Core.Path.{_≡_, refl, sym, ap, ap₂, _∙_}
-use mathlib.Core.Logic.{⊎-elim}
 use mathlib.Core.Bool.{Bool, true, false, not, cond, _&&_}
 use Prim.Native.Nat.{ℕ, suc, _+_, _-_, _<_}
 use native.Mathlib.Omega.{arith}
-use lib.Dec.{ltb, leb}
+use lib.Dec.{ltb}
 use lib.IntN.{ℤ, pos, negsuc, _+ℤ_, _-ℤ_}
 use lib.Signed.{mag, ltZ, leZ}
-use borrow.Author.Tests.{leb-true, lt-ltb, le-ltb, le-leb, lt-leb}
-use Rattle.counts.proofs.TestLaws.{tests, lt-or-le, and-true, same-test}
+use borrow.Author.Tests.{leb-true, lt-ltb, le-ltb, le-leb}
+use Rattle.counts.proofs.TestLaws.{tests, and-true, same-test, leb-not}
 use Rattle.plane.proofs.DifferenceLaws.{diff-same, diff-sub}
 use Rattle.grid.specs.Coordinates.{onGrid, located, up, down}
 use Rattle.grid.specs.declared.Located.the-variants.{On, Off}
-
-leb-not : (m n : ℕ) → leb m n ≡ not (ltb n m)
-leb-not m n =
-    ⊎-elim (λ l. lt-leb m n l ∙ ap not (sym (lt-ltb n m l))) (λ l. le-leb m n l ∙ ap not (sym (le-ltb n m l)))
-    (lt-or-le n m)
 
 pub onGrid-fits : (z : ℤ) → onGrid z ≡ true → mag z < 32768
 onGrid-fits (pos n) e = omega (arith, leb-true n 32767 e)

@@ -4,15 +4,16 @@
 --     plus-turn, minus-turn, turnsLeft-turn, turnsRight-turn, straight-turn     from the next corner: the same
 --     plus-swap, minus-swap, turnsLeft-swap, turnsRight-swap, straight-swap     two corners exchanged: the other way
 -- Assumes nothing.
-use mathlib.Core.Path.{_≡_, refl, sym, ap, ap₂, _∙_}
+use mathlib.Core.Path.{_≡_, sym, ap, ap₂, _∙_}
 use mathlib.Core.Logic.{_↔_}
-use mathlib.Core.Bool.{Bool, true, false}
+use mathlib.Core.Bool.{true}
 use Prim.Native.Nat.{ℕ, _+_, _*_}
 use native.Mathlib.Omega.{arith}
 use lib.Dec.{ltb, eqb}
 use lib.IntN.{pos, _-ℤ_, _*ℤ_}
 use lib.Signed.{ltZ}
-use borrow.Author.Tests.{eqb-true, eqb-false, eq-eqb, ne-eqb}
+use borrow.Author.Tests.{eqb-true, eq-eqb}
+use Rattle.counts.proofs.TestLaws.{eqb-swap}
 use Rattle.plane.specs.declared.Point.{Point}
 use Rattle.plane.specs.Turns.{direction, determinant, plus, minus, turnsLeft, turnsRight, straight}
 use Rattle.plane.proofs.DifferenceLaws.{diff, diff-same, diff-sub, diff-mul}
@@ -87,13 +88,6 @@ turnsRight-swap p q r = ap₂ ltb (plus-swap p q r) (minus-swap p q r)
 
 pub turnsLeft-swap : (p q r : Point) → turnsLeft q p r ≡ turnsRight p q r
 turnsLeft-swap p q r = sym (turnsRight-swap q p r)
-
-eqb-swap : (m n : ℕ) → eqb m n ≡ eqb n m
-eqb-swap m n = by-test (eqb n m) refl
-  where
-    by-test : (b : Bool) → eqb n m ≡ b → eqb m n ≡ b
-    by-test true e = eq-eqb m n (sym (eqb-true n m e))
-    by-test false e = ne-eqb m n (λ f. eqb-false n m e (sym f))
 
 pub straight-swap : (p q r : Point) → straight q p r ≡ straight p q r
 unfolding straight

@@ -1,5 +1,5 @@
--- Touching at examples, computed: what the definition answers where a reading could go astray. No program runs `touches`
--- yet, so these are its tests. Assumes nothing.
+-- Touching at examples, computed: what the definition answers where a reading could go astray. No program runs
+-- `touches` yet, so these are its tests. Assumes nothing.
 use mathlib.Core.Path.{_≡_, refl}
 use mathlib.Core.Bool.{true, false}
 use Prim.Native.Nat.{ℕ}
