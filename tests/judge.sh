@@ -4,6 +4,6 @@
 set -u
 cd "$(dirname "$0")/.." || exit 2
 PATH="$PATH:${HOME:-}/.cargo/bin"
-[ -x target/bin/probe ] || rt check probe > /dev/null || exit 1
+rt check probe > /dev/null || exit 1
 rustc --edition 2021 -O -o target/judge tests/judge.rs || exit 1
 target/judge target/bin/probe "${1:-20000}" "${2:-1}"

@@ -1,5 +1,5 @@
-// Document 01's bench examples that are run, and the edges of the grid: what the library answers, one line each. The
-// gate compares the lines with the file stdout.
+// What the library answers at the edges of the grid and on document 01's square, one line each: turns, orders, runs and
+// heads. The gate compares the lines with the file stdout.
 use grid::Coord;
 use grid::Located;
 use grid::Turn;

@@ -1,6 +1,7 @@
 -- Laws of coordinates and their counts (specs/Coordinates.antt), over the signed numbers.
 --     onGrid-fits, fits-onGrid    a coordinate is a number whose magnitude is below 32,768, as the language sees it
---     located-low, located-high, located-on, on-fits    a number past an end is Off, any other is the coordinate
+--     located-low, located-high    a number past an end, or past any bound beyond it, is Off
+--     located-on, on-fits          any other is the coordinate
 --     up-small            a count is below 65,536
 --     up-sum              it is the number and 32,768
 --     down-up, up-down    each way is the other's inverse
@@ -8,14 +9,14 @@
 --     up-difference       and every difference, so directions and determinants are the same counted or signed
 -- Assumes nothing.
 use mathlib.Core.Path.{_≡_, refl, sym, ap, ap₂, _∙_}
-use mathlib.Core.Bool.{Bool, true, false, not, cond, _&&_}
-use Prim.Native.Nat.{ℕ, suc, _+_, _-_, _<_}
+use mathlib.Core.Bool.{Bool, true, false, not, cond, _&&_, true≢false}
+use Prim.Native.Nat.{ℕ, suc, _+_, _-_, _<_, _≤_}
 use native.Mathlib.Omega.{arith}
 use lib.Dec.{ltb}
 use lib.IntN.{ℤ, pos, negsuc, _+ℤ_, _-ℤ_}
 use lib.Signed.{mag, ltZ, leZ}
-use borrow.Author.Tests.{leb-true, lt-ltb, le-ltb, le-leb}
-use Rattle.counts.proofs.TestLaws.{tests, and-true, same-test, leb-not}
+use borrow.Author.Tests.{leb-true, ltb-true, lt-ltb, le-ltb, le-leb, lt-leb}
+use Rattle.counts.proofs.TestLaws.{tests, and-true, and-comm, same-test, leb-not}
 use Rattle.plane.proofs.DifferenceLaws.{diff-same, diff-sub}
 use Rattle.grid.specs.Coordinates.{onGrid, located, up, down}
 use Rattle.grid.specs.declared.Located.the-variants.{On, Off}
@@ -39,14 +40,23 @@ not-high : (z : ℤ) → leZ z (pos 32767) ≡ not (ltZ (pos 32767) z)
 not-high (pos n) = leb-not n 32767
 not-high (negsuc n) = refl
 
-module _ (z : ℤ) where
-  pub located-low : ltZ z (negsuc 32767) ≡ true → Off ≡ located z
-  unfolding located
-  located-low e = rw (not-low z, e)
+-- a number past a bound that is no nearer than the grid's end is off the grid
+past-low : (z : ℤ) (k : ℕ) → 32767 ≤ k → ltZ z (negsuc k) ≡ true → leZ (negsuc 32767) z ≡ false
+past-low (pos n) k h e = absurd (true≢false (sym e))
+past-low (negsuc n) k h e = lt-leb n 32767 (omega (arith, ltb-true k n e))
 
-  pub located-high : ltZ z (negsuc 32767) ≡ false → ltZ (pos 32767) z ≡ true → Off ≡ located z
+past-high : (z : ℤ) (k : ℕ) → 32767 ≤ k → ltZ (pos k) z ≡ true → leZ z (pos 32767) ≡ false
+past-high (pos n) k h e = lt-leb n 32767 (omega (arith, ltb-true k n e))
+past-high (negsuc n) k h e = absurd (true≢false (sym e))
+
+module _ (z : ℤ) where
+  pub located-low : (k : ℕ) → 32767 ≤ k → ltZ z (negsuc k) ≡ true → Off ≡ located z
   unfolding located
-  located-high e g = rw (not-low z, e, not-high z, g)
+  located-low k h e = rw (past-low z k h e)
+
+  pub located-high : (k : ℕ) → 32767 ≤ k → ltZ (pos k) z ≡ true → Off ≡ located z
+  unfolding located
+  located-high k h e = rw (past-high z k h e, and-comm (leZ (negsuc 32767) z) false)
 
   pub located-on : ltZ z (negsuc 32767) ≡ false → ltZ (pos 32767) z ≡ false → On (record { v = z }) ≡ located z
   unfolding located

@@ -1,6 +1,6 @@
 -- Laws of `turnOf` (specs/Turning.antt).
---     turnOf-left, turnOf-right, turnOf-straight    its value in each case, from the two sums that a program compares
---     left-is, right-is, straight-is                what each answer says of the tests on turns
+--     turnOf-left, -right, -straight                its value in each case, from the two sums that a program compares
+--     turnOf-says-left, -right, -straight           what each answer says of the tests on turns
 -- Assumes nothing.
 use mathlib.Core.Path.{_≡_, refl}
 use mathlib.Core.Bool.{Bool, true, false, cond}
@@ -30,18 +30,18 @@ module _ (p q r : Point) {m n : ℕ} (em : m ≡ minus p q r) (en : n ≡ plus p
 -- ---- what each answer says
 
 module _ (p q r : Point) where
-  pub left-is : turnOf p q r ≡ Left → turnsLeft p q r ≡ true
+  pub turnOf-says-left : turnOf p q r ≡ Left → turnsLeft p q r ≡ true
   unfolding turnOf
-  left-is = go (turnsLeft p q r) (turnsRight p q r)
+  turnOf-says-left = go (turnsLeft p q r) (turnsRight p q r)
     where
       go : (a b : Bool) → cond a Left (cond b Right Straight) ≡ Left → a ≡ true
       go true b e = refl
       go false true e = let z : _≡_ {A = ℕ} 0 1 = cc in absurd (omega arith)
       go false false e = let z : _≡_ {A = ℕ} 0 1 = cc in absurd (omega arith)
 
-  pub right-is : turnOf p q r ≡ Right → (turnsLeft p q r ≡ false) × (straight p q r ≡ false)
+  pub turnOf-says-right : turnOf p q r ≡ Right → (turnsLeft p q r ≡ false) × (straight p q r ≡ false)
   unfolding turnOf turnsLeft turnsRight straight
-  right-is = go (ltb (minus p q r) (plus p q r)) (ltb (plus p q r) (minus p q r)) refl refl
+  turnOf-says-right = go (ltb (minus p q r) (plus p q r)) (ltb (plus p q r) (minus p q r)) refl refl
     where
       go : (a b : Bool) → ltb (minus p q r) (plus p q r) ≡ a → ltb (plus p q r) (minus p q r) ≡ b
           → cond a Left (cond b Right Straight) ≡ Right
@@ -51,9 +51,9 @@ module _ (p q r : Point) where
           (refl, ne-eqb (minus p q r) (plus p q r) (omega (arith, ltb-true (plus p q r) (minus p q r) g)))
       go false false h g e = let z : _≡_ {A = ℕ} 0 1 = cc in absurd (omega arith)
 
-  pub straight-is : turnOf p q r ≡ Straight → (turnsLeft p q r ≡ false) × (straight p q r ≡ true)
+  pub turnOf-says-straight : turnOf p q r ≡ Straight → (turnsLeft p q r ≡ false) × (straight p q r ≡ true)
   unfolding turnOf turnsLeft turnsRight straight
-  straight-is = go (ltb (minus p q r) (plus p q r)) (ltb (plus p q r) (minus p q r)) refl refl
+  turnOf-says-straight = go (ltb (minus p q r) (plus p q r)) (ltb (plus p q r) (minus p q r)) refl refl
     where
       go : (a b : Bool) → ltb (minus p q r) (plus p q r) ≡ a → ltb (plus p q r) (minus p q r) ≡ b
           → cond a Left (cond b Right Straight) ≡ Straight

@@ -1,52 +1,42 @@
 -- In an array in record order the run at a corner is all the records there, and no others.
 --     InOrder s      each record comes strictly after the one before
 --     doms-rise      so no later record has a smaller dominating end
---     run-only       what lies in the run, of any array, is at the corner
---     run-all        what is at the corner lies in the run, of an array in order
+--     run-only       what lies in the contract's run, of any array, is at the corner
+--     run-all        what is at the corner lies in that run, of an array in order
 -- Assumes nothing.
-use mathlib.Core.Path.{_≡_, sym, ap, _∙_}
+use mathlib.Core.Path.{_≡_, refl, sym, ap, _∙_}
 use mathlib.Core.Logic.{_⊎_, inl, inr}
-use mathlib.Core.Bool.{true, false, _&&_, true≢false}
+use mathlib.Core.Bool.{true, false, true≢false}
 use mathlib.Core.List.{List}
-use Prim.Native.Nat.{ℕ, zero, suc, _+_, _-_, _<_, _≤_, zero-le}
+use Prim.Native.Nat.{ℕ, zero, suc, _+_, _-_, _*_, _<_, _≤_, zero-le}
 use native.Mathlib.Nat.{add-zero, add-suc, add-sub-of-le}
 use native.Mathlib.Omega.{arith}
 use lib.IntN.{ℤ}
 use borrow.Author.Tests.{not-true, not-false}
 use Rattle.counts.specs.Scan.{firstFrom}
-use Rattle.counts.proofs.TestLaws.{or-true, and-true, is-false, lt-or-le}
+use Rattle.counts.proofs.TestLaws.{is-false, lt-or-le}
 use Rattle.counts.proofs.ScanLaws.{firstFrom-low, firstFrom-high, firstFrom-passes, firstFrom-fails}
 use Rattle.plane.specs.declared.Point.{Point}
 use Rattle.plane.specs.Points.{before, same}
-use Rattle.plane.proofs.PointLaws.{before-irrefl, before-trans, before-once, trichotomy, same-true, same-refl}
+use Rattle.plane.proofs.PointLaws.{before-irrefl, before-once, trichotomy, not-before-trans}
+use Rattle.plane.proofs.PointLaws.{same-true, same-refl}
 use Rattle.record.specs.declared.Record.{Record}
-use Rattle.record.specs.Records.{recordAt, recordCount}
-use Rattle.record.specs.Order.{earlier, precedes}
-use Rattle.parts.specs.Parts.{atCorner, offCorner, firstThere}
+use Rattle.record.specs.Records.{width, recordAt, recordCount}
+use Rattle.record.specs.Order.{precedes}
+use Rattle.record.proofs.OrderLaws.{Precedes, precedes-true}
+use Rattle.parts.specs.Parts.{atCorner, offCorner, firstThere, runStart, runEnd}
+use Rattle.parts.proofs.PartLaws.{runStart-some, runEnd-none, runEnd-some}
 
 abbrev pub InOrder : List ℤ → Type 0
 InOrder s = (i : ℕ) → suc i < recordCount s → precedes (recordAt s i) (recordAt s (suc i)) ≡ true
 
 -- a record that comes first has no greater dominating end
 first-dom : (r e : Record) → precedes r e ≡ true → before (e .dom) (r .dom) ≡ false
-unfolding precedes
-first-dom r e h = is-false _ (λ back. by-case (or-true (before (r .dom) (e .dom)) _ h) back)
+first-dom r e h = is-false _ (λ back. by-case (precedes-true r e h) back)
   where
-    by-case : (before (r .dom) (e .dom) ≡ true) ⊎ (same (r .dom) (e .dom) && earlier r e ≡ true)
-        → before (e .dom) (r .dom) ≡ true → ⊥
+    by-case : Precedes r e → before (e .dom) (r .dom) ≡ true → ⊥
     by-case (inl g) back = before-once (r .dom) (e .dom) g back
-    by-case (inr g) back =
-        let one = same-true (r .dom) (e .dom) (and-true (same (r .dom) (e .dom)) _ g .0) in
-        before-irrefl (e .dom) (ap (λ p. before (e .dom) p) (sym one) ∙ back)
-
--- not smaller, through a third point
-not-smaller : (p q r : Point) → before q p ≡ false → before r q ≡ false → before r p ≡ false
-not-smaller p q r h g = is-false _ (λ back. by-order (trichotomy p q) back)
-  where
-    by-order : (before p q ≡ true) ⊎ ((p ≡ q) ⊎ (before q p ≡ true)) → before r p ≡ true → ⊥
-    by-order (inl l) back = true≢false (sym (before-trans r p q back l) ∙ g)
-    by-order (inr (inl e)) back = true≢false (sym (ap (λ t. before r t) (sym e) ∙ back) ∙ g)
-    by-order (inr (inr l)) back = true≢false (sym l ∙ h)
+    by-case (inr g) back = before-irrefl (e .dom) (ap (λ p. before (e .dom) p) (sym (g .0)) ∙ back)
 
 module _ (s : List ℤ) where
   pub doms-rise : InOrder s → (i j : ℕ) → i ≤ j → j < recordCount s
@@ -57,7 +47,7 @@ module _ (s : List ℤ) where
       climb zero g = rw add-zero (is-false _ (before-irrefl (recordAt s i .dom)))
       climb (suc k) g =
           rw add-suc
-          (not-smaller (recordAt s i .dom) (recordAt s (i + k) .dom) (recordAt s (suc (i + k)) .dom)
+          (not-before-trans (recordAt s i .dom) (recordAt s (i + k) .dom) (recordAt s (suc (i + k)) .dom)
           (climb k (omega arith))
           (first-dom (recordAt s (i + k)) (recordAt s (suc (i + k))) (o (i + k) (omega arith))))
 
@@ -69,13 +59,13 @@ module _ (s : List ℤ) where
     in-range : firstThere s p ≤ recordCount s
     in-range = firstFrom-high (atCorner p) (recordAt s) 0 (recordCount s) zero-le
 
-    pub run-only : (i : ℕ) → firstThere s p ≤ i → i < past → atCorner p (recordAt s i) ≡ true
-    run-only i h l =
+    in-run-there : (i : ℕ) → firstThere s p ≤ i → i < past → atCorner p (recordAt s i) ≡ true
+    in-run-there i h l =
         not-false _ (firstFrom-fails (offCorner p) (recordAt s) (firstThere s p) (recordCount s) in-range i h l)
 
-    pub run-all : InOrder s → (i : ℕ) → i < recordCount s → atCorner p (recordAt s i) ≡ true
+    there-in-run : InOrder s → (i : ℕ) → i < recordCount s → atCorner p (recordAt s i) ≡ true
         → (firstThere s p ≤ i) × (i < past)
-    run-all o i short there = (starts, ends (lt-or-le i past))
+    there-in-run o i short there = (starts, ends (lt-or-le i past))
       where
         starts : firstThere s p ≤ i
         starts = go (lt-or-le i (firstThere s p))
@@ -120,3 +110,23 @@ module _ (s : List ℤ) where
             off =
                 firstFrom-passes (offCorner p) (recordAt s) (firstThere s p) (recordCount s) in-range
                 (omega (arith, l))
+
+    -- ---- the same of the run that the contract names, whose places count numbers and not records
+
+    some-there : (i : ℕ) → i < recordCount s → firstThere s p ≤ i → firstThere s p < recordCount s
+    some-there i short l = omega arith
+
+    pub run-only : (i : ℕ) → runStart s p ≤ width * i → width * i < runEnd s p → atCorner p (recordAt s i) ≡ true
+    run-only i lo hi = go (lt-or-le (firstThere s p) (recordCount s))
+      where
+        go : (firstThere s p < recordCount s) ⊎ (recordCount s ≤ firstThere s p) → atCorner p (recordAt s i) ≡ true
+        go (inl l) =
+            in-run-there i (omega (arith, runStart-some s p refl l)) (omega (arith, runEnd-some s p refl refl l))
+        go (inr l) = absurd (omega (arith, runEnd-none s p refl l))
+
+    pub run-all : InOrder s → (i : ℕ) → i < recordCount s → atCorner p (recordAt s i) ≡ true
+        → (runStart s p ≤ width * i) × (width * i < runEnd s p)
+    run-all o i short there =
+        let within = there-in-run o i short there in
+        let some = some-there i short (within .0) in
+        (omega (arith, runStart-some s p refl some), omega (arith, runEnd-some s p refl refl some))

@@ -3,16 +3,17 @@
 --     Before p q, before-true, before-intro              `before` as a statement, both ways
 --     before-irrefl, before-trans, before-once           no point before itself; through a third point; not both ways
 --     trichotomy                                         of two points one is before the other, or they are one
+--     not-before-trans                                   not smaller, through a third point
 -- Assumes nothing.
-use mathlib.Core.Path.{_≡_, refl}
+use mathlib.Core.Path.{_≡_, refl, sym, ap, _∙_}
 use mathlib.Core.Logic.{_⊎_, inl, inr}
-use mathlib.Core.Bool.{true, _&&_}
+use mathlib.Core.Bool.{true, false, _&&_, true≢false}
 use Prim.Native.Nat.{_<_}
 use lib.Dec.{ltb, eqb}
 use native.Mathlib.Decide.{decLt}
 use native.Mathlib.Omega.{arith}
 use borrow.Author.Tests.{ltb-true, lt-ltb, eqb-true, eq-eqb}
-use Rattle.counts.proofs.TestLaws.{and-true, and-intro, or-true, or-left, or-right}
+use Rattle.counts.proofs.TestLaws.{and-true, and-intro, or-true, or-left, or-right, is-false}
 use Rattle.plane.specs.declared.Point.{Point}
 use Rattle.plane.specs.Points.{before, same}
 
@@ -73,3 +74,12 @@ trichotomy p q = go (decLt (p .x) (q .x)) (decLt (q .x) (p .x)) (decLt (p .y) (q
         let x : p .x ≡ q .x = omega arith in
         let y : p .y ≡ q .y = omega arith in
         inr (inl (λ i. record { x = x i; y = y i }))
+
+-- not smaller, through a third point
+pub not-before-trans : (p q r : Point) → before q p ≡ false → before r q ≡ false → before r p ≡ false
+not-before-trans p q r h g = is-false _ (λ back. by-order (trichotomy p q) back)
+  where
+    by-order : (before p q ≡ true) ⊎ ((p ≡ q) ⊎ (before q p ≡ true)) → before r p ≡ true → ⊥
+    by-order (inl l) back = true≢false (sym (before-trans r p q back l) ∙ g)
+    by-order (inr (inl e)) back = true≢false (sym (ap (λ t. before r t) (sym e) ∙ back) ∙ g)
+    by-order (inr (inr l)) back = true≢false (sym l ∙ h)

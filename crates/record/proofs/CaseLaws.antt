@@ -10,7 +10,7 @@ use Rattle.counts.specs.Count.{_⊕_}
 use Rattle.plane.specs.Points.{before, same}
 use Rattle.grid.specs.Turning.{turnOf}
 use Rattle.grid.specs.declared.Turn.the-variants.{Left, Straight, Right}
-use Rattle.grid.proofs.TurnLaws.{left-is, right-is, straight-is}
+use Rattle.grid.proofs.TurnLaws.{turnOf-says-left, turnOf-says-right, turnOf-says-straight}
 use Rattle.record.specs.declared.Record.{Record}
 use Rattle.record.specs.Order.{left, squareLength, leads, earlier, precedes}
 
@@ -19,16 +19,16 @@ module _ (r e : Record) where
 
   pub leads-left : turnOf (r .dom) (r .other) (e .other) ≡ Left → leads r e ≡ true
   unfolding leads
-  leads-left t = rw (left-is (r .dom) (r .other) (e .other) t)
+  leads-left t = rw (turnOf-says-left (r .dom) (r .other) (e .other) t)
 
   pub leads-right : turnOf (r .dom) (r .other) (e .other) ≡ Right → leads r e ≡ false
   unfolding leads
-  leads-right t = let h = right-is (r .dom) (r .other) (e .other) t in rw (h .0, h .1)
+  leads-right t = let h = turnOf-says-right (r .dom) (r .other) (e .other) t in rw (h .0, h .1)
 
   pub leads-straight : turnOf (r .dom) (r .other) (e .other) ≡ Straight
       → leads r e ≡ ltb (squareLength r) (squareLength e)
   unfolding leads
-  leads-straight t = let h = straight-is (r .dom) (r .other) (e .other) t in rw (h .0, h .1)
+  leads-straight t = let h = turnOf-says-straight (r .dom) (r .other) (e .other) t in rw (h .0, h .1)
 
   -- ---- by the halves
 

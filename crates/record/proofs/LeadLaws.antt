@@ -18,6 +18,7 @@ use Rattle.counts.proofs.TestLaws.{and-true, and-intro, or-true, or-left, or-ri
 use Rattle.counts.proofs.TestLaws.{Side, less, equal, more, side}
 use Rattle.plane.specs.declared.Point.{Point}
 use Rattle.plane.specs.Turns.{direction, determinant, plus, minus, turnsLeft, straight}
+use Rattle.plane.proofs.SideLaws.{Left, Level}
 use Rattle.plane.proofs.DeterminantLaws.{turnsLeft-is, straight-is}
 use Rattle.record.specs.declared.Record.{Record}
 use Rattle.record.specs.Order.{left, Proper, squareLength, leads}
@@ -27,17 +28,10 @@ use Rattle.record.proofs.HalfLaws.{Goes, heading, goes, ahead, balance,
 
 -- ---- what `leads` says
 
--- from p, the way to q turns counter-clockwise onto the way to t; or the two are in line
-abbrev Turning : Point → Point → Point → Type 0
-Turning p q t = minus p q t < plus p q t
-
-abbrev Inline : Point → Point → Point → Type 0
-Inline p q t = minus p q t ≡ plus p q t
-
 abbrev Leads : Record → Record → Type 0
 Leads r e =
-    Turning (r .dom) (r .other) (e .other)
-    ⊎ (Inline (r .dom) (r .other) (e .other) × (squareLength r < squareLength e))
+    Left (r .dom) (r .other) (e .other)
+    ⊎ (Level (r .dom) (r .other) (e .other) × (squareLength r < squareLength e))
 
 leads-true : (r e : Record) → leads r e ≡ true → Leads r e
 unfolding leads turnsLeft straight
@@ -128,7 +122,7 @@ module _ (b : Bool) (r s : Record) (d : r .dom ≡ s .dom)
   from-ways (inl h) = inl (omega (arith, weighed))
   from-ways (inr h) = inr (omega (arith, weighed), h .1)
 
-  one-end : Inline (r .dom) (r .other) (s .other) → squareLength r ≡ squareLength s → r .other ≡ s .other
+  one-end : Level (r .dom) (r .other) (s .other) → squareLength r ≡ squareLength s → r .other ≡ s .other
   one-end e q =
       let level : back (heading b r) (heading b s) ≡ fore (heading b r) (heading b s) = omega (arith, weighed) in
       let long = sym (square-is b r f) ∙ q ∙ square-is b s g in

@@ -1,4 +1,5 @@
 -- That document 01's order of records is a strict total order of proper records.
+--     Precedes r e, precedes-true, precedes-intro    `precedes` as a statement, both ways
 --     precedes-mark       the marks do not count
 --     precedes-asym       of two records at most one precedes the other
 --     precedes-irrefl     no record precedes itself
@@ -29,10 +30,10 @@ precedes-mark r s p q d o e f =
 
 -- ---- what `precedes` says
 
-abbrev Precedes : Record → Record → Type 0
+abbrev pub Precedes : Record → Record → Type 0
 Precedes r e = (before (r .dom) (e .dom) ≡ true) ⊎ ((r .dom ≡ e .dom) × (earlier r e ≡ true))
 
-precedes-true : (r e : Record) → precedes r e ≡ true → Precedes r e
+pub precedes-true : (r e : Record) → precedes r e ≡ true → Precedes r e
 unfolding precedes
 precedes-true r e h = by-case (or-true (before (r .dom) (e .dom)) _ h)
   where
@@ -42,7 +43,7 @@ precedes-true r e h = by-case (or-true (before (r .dom) (e .dom)) _ h)
         let both = and-true (same (r .dom) (e .dom)) _ g in
         inr (same-true (r .dom) (e .dom) (both .0), both .1)
 
-precedes-intro : (r e : Record) → Precedes r e → precedes r e ≡ true
+pub precedes-intro : (r e : Record) → Precedes r e → precedes r e ≡ true
 unfolding precedes
 precedes-intro r e (inl h) = or-left _ h
 precedes-intro r e (inr h) =
