@@ -1,19 +1,20 @@
 -- Of the members that pass a test, one of the greatest key; and when at most one passes.
 --     Top p key xs     a member that passes, of the greatest key among those that do
 --     highest          none passes, or there is such a one
+--     any-member       `any` passes exactly if some member does
 --     at-most-one      where any two that pass are one, and each member is there once, at most one passes
 -- Assumes nothing.
 use mathlib.Core.Path.{_≡_, refl, sym, _∙_, subst}
-use mathlib.Core.Logic.{_⊎_, inl, inr}
+use mathlib.Core.Logic.{_⊎_, inl, inr, _↔_}
 use mathlib.Core.Bool.{Bool, true, false, true≢false}
 use mathlib.Core.List.{List, [], _∷_}
 use mathlib.Core.List.{List·Memᴰ·head, List·Memᴰ·tail, List·Memᴰ·not-nil, List·Memᴰ·cases-cons}
 use Prim.Native.Nat.{ℕ, _<_, _≤_}
 use native.Mathlib.Omega.{arith}
-use Rattle.counts.specs.Count.{_∈_, ind, count}
+use Rattle.counts.specs.Count.{_∈_, ind, count, any}
 use Rattle.counts.proofs.TestLaws.{lt-or-le}
 use Rattle.counts.proofs.SumLaws.{sum-le}
-use Rattle.counts.proofs.CountLaws.{count-off}
+use Rattle.counts.proofs.CountLaws.{count-off, count-some, any-is}
 
 pub record Top {A : Type 0} (p : A → Bool) (key : A → ℕ) (xs : List A) : Type 0 where
   pub it : A
@@ -68,6 +69,14 @@ module _ {A : Type 0} where
         greatest = on-cons {Q = λ x. p x ≡ true → key x ≤ key (t .it)} y ys
             (λ h. absurd (true≢false (sym h ∙ e))) (t .greatest);
       })
+
+  pub any-member : (p : A → Bool) (xs : List A) → (any p xs ≡ true) ↔ ((x : A) × (x ∈ xs) × (p x ≡ true))
+  any-member p xs =
+      ((λ t. go (any-is p xs .0 t) (highest p (λ x. 0) xs)), λ h. any-is p xs .1 (count-some p xs (h .0) (h .1) (h .2)))
+    where
+      go : 0 < count p xs → ((x : A) → x ∈ xs → p x ≡ false) ⊎ Top p (λ x. 0) xs → (x : A) × (x ∈ xs) × (p x ≡ true)
+      go l (inl none) = absurd (omega (arith, count-off p xs none))
+      go l (inr t) = (t .it, t .member, t .passes)
 
   pub at-most-one : (p : A → Bool) (same : A → A → Bool) (same-refl : (x : A) → same x x ≡ true) (xs : List A)
       → ((x : A) → x ∈ xs → count (λ y. same y x) xs ≤ 1)

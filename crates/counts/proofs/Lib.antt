@@ -7,3 +7,4 @@ pub mod HighestLaws
 pub mod AscendingLaws
 pub mod TelescopeLaws
 pub mod ScanLaws
+pub mod ReadLaws

@@ -1,21 +1,27 @@
 -- What a loop that looks for the first, or counts, holds on its way, and the laws that keep it:
 -- for any test p and any f.
 --     firstFrom-low, -high, -passes, -fails    its range, and what stands at the first place, and before it
+--     firstFrom-none, any-first                no place passes; it is below n exactly if some member passes
 --     Seen p f a n i      from a up to i none passed, so the first from i on is the first from a on
 --     `Counted p f i m` of specs/Scan.antt is what a loop that counts holds at i
 --     scanning            for `search`: what closes the needs of such a loop
 -- Each law takes what the code has, b ≡ p (f i) and b ≡ true, and gives the next invariant or the contract.
 -- Assumes nothing.
 use mathlib.Core.Path.{_≡_, refl, sym, ap, _∙_}
-use mathlib.Core.Bool.{Bool, true, false}
-use Prim.Native.Nat.{ℕ, suc, _+_, _-_, _≤_, _<_}
+use mathlib.Core.Logic.{_↔_, ⊎-elim}
+use mathlib.Core.Bool.{Bool, true, false, true≢false}
+use Prim.Native.Nat.{ℕ, suc, _+_, _-_, _≤_, _<_, zero-le}
 use native.Mathlib.Numerals.{add-one}
 use native.Mathlib.Omega.{arith}
-use Rattle.counts.specs.Count.{ind, sum, count, firstIndex, listed}
+use lib.Dec.{ltb}
+use borrow.Author.Tests.{ltb-true, ltb-false, lt-ltb}
+use Rattle.counts.specs.Count.{_∈_, ind, sum, count, any, firstIndex, listed}
 use Rattle.counts.specs.Scan.{firstFrom, Found, Counted}
+use Rattle.counts.proofs.TestLaws.{is-false, same-test, lt-or-le}
 use Rattle.counts.proofs.CountLaws.{count-append}
 use Rattle.counts.proofs.FirstLaws.{firstIndex-most, firstIndex-passes, firstIndex-fails}
-use Rattle.counts.proofs.FirstLaws.{listed-snoc, listed-length, listed-at}
+use Rattle.counts.proofs.FirstLaws.{listed-snoc, listed-length, listed-at, listed-mem, mem-listed}
+use Rattle.counts.proofs.HighestLaws.{any-member}
 
 module _ {A : Type 0} (p : A → Bool) (f : ℕ → A) where
   -- ---- the first from a place on
@@ -68,6 +74,32 @@ module _ {A : Type 0} (p : A → Bool) (f : ℕ → A) (a n : ℕ) (le : a ≤ n
       ap (λ j. p (f j)) (sym there)
       ∙ sym (ap p (listed-at f (f a) a (n - a) k short))
       ∙ firstIndex-fails p (f a) (listed f a (n - a)) k (omega arith)
+
+  -- what passes is no earlier than the first
+  pub firstFrom-least : (i : ℕ) → a ≤ i → p (f i) ≡ true → firstFrom p f a n ≤ i
+  firstFrom-least i h t =
+      ⊎-elim (λ l. absurd (true≢false (sym t ∙ firstFrom-fails i h l))) (λ l. l) (lt-or-le i (firstFrom p f a n))
+
+  pub firstFrom-none : (ltb (firstFrom p f a n) n ≡ false) ↔ ((i : ℕ) → a ≤ i → i < n → p (f i) ≡ false)
+  firstFrom-none = (
+    (λ e i h l. firstFrom-fails i h (omega (arith, ltb-false (firstFrom p f a n) n e))),
+    (λ h. is-false _ (λ t. let l = ltb-true _ _ t in true≢false (sym (firstFrom-passes l) ∙ h _ firstFrom-low l))),
+  )
+
+module _ {A : Type 0} where
+  pub any-first : (p : A → Bool) (f : ℕ → A) (n : ℕ) → any p (listed f 0 n) ≡ ltb (firstFrom p f 0 n) n
+  any-first p f n = same-test _ _ (λ t. there (any-member p (listed f 0 n) .0 t)) (λ t. back (ltb-true _ _ t))
+    where
+      there : (x : A) × (x ∈ listed f 0 n) × (p x ≡ true) → ltb (firstFrom p f 0 n) n ≡ true
+      there h =
+          let at = listed-mem f 0 n (h .0) (h .1) in
+          let least = firstFrom-least p f 0 n zero-le (at .0) (at .1) (sym (ap p (at .3)) ∙ h .2) in
+          lt-ltb (firstFrom p f 0 n) n (omega (arith, at .2))
+
+      back : firstFrom p f 0 n < n → any p (listed f 0 n) ≡ true
+      back l =
+          any-member p (listed f 0 n) .1
+          (f (firstFrom p f 0 n), mem-listed f 0 n (firstFrom p f 0 n) zero-le (omega arith), firstFrom-passes p f 0 n zero-le l)
 
 pub record Seen {A : Type 0} (p : A → Bool) (f : ℕ → A) (a n i : ℕ) : Type 0 where
   pub low : a ≤ i

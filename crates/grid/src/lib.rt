@@ -2,7 +2,7 @@
 // turn of three.
 ghost use mathlib.Core.Path.{_≡_};
 ghost use Rattle.plane.specs.Points.{before, same};
-ghost use Rattle.plane.specs.Turns.{plus, minus};
+ghost use Rattle.plane.specs.Turns.{plus, minus, turnsLeft, turnsRight, straight};
 ghost use Rattle.grid.specs.Coordinates.{least, greatest, coordOf, located, up, down, pointOf};
 ghost use Rattle.grid.specs.Turning.{Product, TurnSum, turnOf};
 use plane::Point;
@@ -152,4 +152,23 @@ pub fn turn_of(p: Point, q: Point, r: Point) -> Turn
         return Turn::Right;
     }
     Turn::Straight
+}
+
+// The three answers one by one, for callers that ask for a single one.
+pub fn turns_left(p: Point, q: Point, r: Point) -> bool
+    ensures { λ b. ⌜ b ≡ turnsLeft p q r ⌝ }
+{
+    minus_of(p, q, r) < plus_of(p, q, r)
+}
+
+pub fn turns_right(p: Point, q: Point, r: Point) -> bool
+    ensures { λ b. ⌜ b ≡ turnsRight p q r ⌝ }
+{
+    plus_of(p, q, r) < minus_of(p, q, r)
+}
+
+pub fn is_straight(p: Point, q: Point, r: Point) -> bool
+    ensures { λ b. ⌜ b ≡ straight p q r ⌝ }
+{
+    minus_of(p, q, r) == plus_of(p, q, r)
 }

@@ -2,6 +2,7 @@
 --     OnGrid p             p is such a point
 --     product-range        a product of two coordinates is at most 65,535 * 65,535
 --     product-fits         so it fits 64 bits
+--     thrice-fits          and so do two such products by a third coordinate
 --     determinant-range    plus and minus differ by at most 65,535 * 65,535, the area of the grid's box
 -- Assumes nothing.
 use Prim.Native.Nat.{ℕ, _+_, _-_, _*_, _≤_, _<_}
@@ -23,6 +24,10 @@ product-range a b h k = mul-le-mul {n₂ = 65535} {m₂ = 65535} (omega arith) (
 -- so a product fits 64 bits, where signed 32 are too few
 pub product-fits : (a b : ℕ) → a < 65536 → b < 65536 → a * b < 18446744073709551616
 product-fits a b h k = omega (arith, product-range a b h k)
+
+pub thrice-fits : (m w : ℕ) → m ≤ 2 * largestProduct → w < 65536 → m * w < 18446744073709551616
+thrice-fits m w h k =
+    omega (arith, mul-le-mul {m₁ = w} {n₂ = 2 * largestProduct} {m₂ = 65535} h (omega arith))
 
 le-or-ge : (m n : ℕ) → (m ≤ n) ⊎ (n ≤ m)
 le-or-ge m n = ⊎-elim (λ l. inl (le-of-lt l)) (λ l. inr l) (lt-or-le m n)

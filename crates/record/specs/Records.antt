@@ -5,7 +5,8 @@
 --     pointAt s i       the point whose x is number i
 --     recordAt s i      record i; of an array that ends before it, what is missing reads as 0
 --     recordCount s     how many whole records there are: numbers left over at the end belong to none
---     records s         all of them, in their order
+--     firstRecords s n  the first n of them, in their order
+--     records s         all of them
 --     unmarked, marked  what the marks 0 and 1 read as
 -- Assumes nothing.
 use mathlib.Core.List.{List}
@@ -33,8 +34,11 @@ recordAt s i =
 abbrev pub recordCount : List ℤ → ℕ
 recordCount s = length s / width
 
+abbrev pub firstRecords : List ℤ → ℕ → List Record
+firstRecords s n = listed (recordAt s) 0 n
+
 abbrev pub records : List ℤ → List Record
-records s = listed (recordAt s) 0 (recordCount s)
+records s = firstRecords s (recordCount s)
 
 abbrev pub unmarked : ℕ
 unmarked = up (pos 0)

@@ -12,6 +12,11 @@ pub mod order;
 // How many numbers a record takes in a chart array.
 pub const WIDTH: usize = 5;
 
+// The marks 0 and 1, counted from the grid's lower end like every number of a record.
+pub const UNMARKED: u16 = 32768;
+
+pub const MARKED: u16 = 32769;
+
 // A record: half of a segment, seen from its dominating end. Its numbers are counted from the grid's lower end, the
 // mark too.
 pub struct Record {

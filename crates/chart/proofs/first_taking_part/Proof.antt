@@ -1,0 +1,23 @@
+-- `first_taking_part` meets its contract: the loop has seen none that takes part before i. Assumes nothing.
+use Prim.Native.Nat.{_-_}
+use borrow.Author.Needs.{needs}
+use Rattle.counts.proofs.ScanLaws.{Seen}
+use Rattle.counts.proofs.ReadLaws.{reading}
+use Rattle.record.specs.Records.{recordAt, firstRecords}
+use Rattle.chart.specs.Charts.{touching}
+use Rattle.chart.proofs.first_taking_part.Statement.{statement}
+use Rattle.chart.proofs.first_taking_part.Tie as tie
+
+ruleset all = (needs, reading)
+
+abbrev Inv-loop : tie.InvT-loop
+Inv-loop s n i₀ i = Seen (touching (firstRecords s n)) (recordAt s) 0 n i
+
+abbrev μ-loop : tie.MeasureT-loop
+μ-loop s n i₀ i = n - i
+
+pub first-taking-part-spec : {M : Type 1} → statement M
+first-taking-part-spec =
+    tie.close
+    (tie.spec Inv-loop μ-loop (λ c. search all) (λ c κs. search all) (λ c κs. search all) (λ c. search all)
+    (λ c. search all) (λ c. search all) (λ c. search all) (λ c. search all))

@@ -1,0 +1,67 @@
+-- Document 01's verdict on an array of numbers ("Checked in this order; the first that applies is given, with the
+-- smallest record index at fault").
+--     limit              how many records a chart may have
+--     refused k i        refusal k at record i
+--     number v, index v  the paper's number and index for each case: 0 and 0 where the chart is accepted
+--     firstly k i n v    refusal k at i where i is one of n records; v where there is none
+--     judged s n         of the first n records: 3 to 9, the first record at fault of each kind (specs/Charts.antt), kind
+--                        after kind; a first place that is n means none
+--     verdict s          1  length is no multiple of five
+--                        2  more than 512 records
+--                        else as its records are judged
+--     accepted s         the verdict refuses nothing
+-- Assumes nothing.
+use mathlib.Core.Bool.{Bool, true, false, not, cond}
+use mathlib.Core.List.{List}
+use Prim.Native.Nat.{ℕ, _%_}
+use lib.Dec.{ltb, eqb}
+use lib.IntN.{ℤ}
+use lib.ListN.{length}
+use Rattle.counts.specs.Scan.{firstFrom}
+use Rattle.record.specs.declared.Record.{Record}
+use Rattle.record.specs.Records.{width, recordAt, recordCount, firstRecords}
+use Rattle.chart.specs.declared.Refusal.{Refusal}
+use Rattle.chart.specs.declared.Verdict.{Verdict}
+use Rattle.chart.specs.declared.Verdict.the-variants.{Accepted, Refused}
+use Rattle.chart.specs.Charts.{equalEnds, badMark, notAfter, noOtherHalf, touching, oddEnd, wrongMark}
+
+abbrev pub limit : ℕ
+limit = 512
+
+abbrev pub refused : ℕ → ℕ → Verdict
+refused k i = Refused (record { number = k; index = i })
+
+abbrev pub number : Verdict → ℕ
+number Accepted = 0
+number (Refused r) = r .number
+
+abbrev pub index : Verdict → ℕ
+index Accepted = 0
+index (Refused r) = r .index
+
+abbrev pub firstly : ℕ → ℕ → ℕ → Verdict → Verdict
+firstly k i n v = cond (ltb i n) (refused k i) v
+
+unfoldable pub judged : List ℤ → ℕ → Verdict
+judged s n =
+    let rs = firstRecords s n in
+    let first : (Record → Bool) → ℕ = λ p. firstFrom p (recordAt s) 0 n in
+    firstly 3 (first equalEnds) n
+    (firstly 4 (first badMark) n
+    (firstly 5 (firstFrom (notAfter s) (λ i. i) 0 n) n
+    (firstly 6 (first (noOtherHalf rs)) n
+    (firstly 7 (first (touching rs)) n
+    (firstly 8 (first (oddEnd rs)) n
+    (firstly 9 (first (wrongMark rs)) n Accepted))))))
+
+unfoldable pub verdict : List ℤ → Verdict
+verdict s =
+    cond (not (eqb (length s % width) 0)) (refused 1 0)
+    (cond (ltb limit (recordCount s)) (refused 2 0) (judged s (recordCount s)))
+
+abbrev pub isAccepted : Verdict → Bool
+isAccepted Accepted = true
+isAccepted (Refused r) = false
+
+abbrev pub accepted : List ℤ → Bool
+accepted s = isAccepted (verdict s)

@@ -1,0 +1,42 @@
+-- Loops that read f i into a variable x and then test x: the laws of ScanLaws.antt, as such a loop meets them; and what
+-- a first place or a count says of the whole list.
+--     read-hit, read-more      looking for the first
+--     read-yes, read-no        counting
+--     reading                  for `search`: what closes the needs of such a loop
+--     found-any, found-none    a first place is below n exactly if some member passes
+-- Assumes nothing.
+use mathlib.Core.Path.{_≡_, sym, ap, _∙_}
+use mathlib.Core.Bool.{Bool, true, false, not}
+use Prim.Native.Nat.{ℕ, _+_, _<_}
+use lib.Dec.{ltb, leb}
+use Rattle.counts.specs.Count.{any, listed}
+use Rattle.counts.specs.Scan.{Found, Counted}
+use Rattle.counts.proofs.TestLaws.{leb-not}
+use Rattle.counts.proofs.ScanLaws.{Seen, seen-none, seen-hit, seen-more, seen-all, any-first}
+use Rattle.counts.proofs.ScanLaws.{counted-none, counted-yes, counted-no, counted-all}
+
+module _ {A : Type 0} (p : A → Bool) (f : ℕ → A) where
+  pub read-hit : {a n i : ℕ} {x : A} {b : Bool} → Seen p f a n i → i < n → x ≡ f i → b ≡ p x → b ≡ true
+      → Found p f a n i
+  read-hit s l r e t = seen-hit p f s l (e ∙ ap p r) t
+
+  pub read-more : {a n i : ℕ} {x : A} {b : Bool} → Seen p f a n i → i < n → x ≡ f i → b ≡ p x → b ≡ false
+      → Seen p f a n (i + 1)
+  read-more s l r e t = seen-more p f s l (e ∙ ap p r) t
+
+  pub read-yes : {i m k : ℕ} {x : A} {b : Bool} → Counted p f i m → x ≡ f i → b ≡ p x → b ≡ true → k ≡ m + 1
+      → Counted p f (i + 1) k
+  read-yes s r e t h = counted-yes p f s (e ∙ ap p r) t h
+
+  pub read-no : {i m k : ℕ} {x : A} {b : Bool} → Counted p f i m → x ≡ f i → b ≡ p x → b ≡ false → k ≡ m
+      → Counted p f (i + 1) k
+  read-no s r e t h = counted-no p f s (e ∙ ap p r) t h
+
+  pub found-any : {n r : ℕ} → Found p f 0 n r → ltb r n ≡ any p (listed f 0 n)
+  found-any {n} {r} h = ap (λ i. ltb i n) (h .is) ∙ sym (any-first p f n)
+
+  pub found-none : {n r : ℕ} → Found p f 0 n r → leb n r ≡ not (any p (listed f 0 n))
+  found-none {n} {r} h = leb-not n r ∙ ap not (found-any h)
+
+pub ruleset reading =
+    (seen-none, read-hit, read-more, seen-all, counted-none, read-yes, read-no, counted-all)

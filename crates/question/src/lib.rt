@@ -1,0 +1,184 @@
+// Questions about a chart: where a point lies, which segment is nearest below it, the run at a corner, twice the area.
+// Each judges the chart first and hands a refusal on; callers check nothing.
+ghost use mathlib.Core.Path.{_≡_};
+ghost use Prim.Native.Nat.{_+_, _*_, _≤_, _<_};
+ghost use lib.ListN.{length};
+ghost use Rattle.counts.specs.Scan.{Found, Counted};
+ghost use Rattle.plane.specs.Columns.{holds, belowPoint, higher};
+ghost use Rattle.grid.specs.Coordinates.{pointOf};
+ghost use Rattle.record.specs.Records.{width, recordAt, firstRecords};
+ghost use Rattle.segment.specs.Segments.{ofSegment};
+ghost use Rattle.question.specs.Places.{placeOf, placed, higherBelow, nearest, nearestOf, nearestBelow};
+ghost use Rattle.question.specs.Corners.{Corner};
+use chart::Refusal;
+use chart::Verdict;
+use chart::check;
+use plane::Point;
+use plane::Segment;
+use record::Record;
+use record::WIDTH;
+use record::record_at;
+
+pub enum Place {
+    Outside,
+    Inside,
+    Edge,
+    Refused(Refusal),
+}
+
+pub enum Nearest {
+    Nothing,
+    At(usize),
+    Refused(Refusal),
+}
+
+// ---- where a point lies
+
+fn is_held(p: Point, e: Record) -> bool
+    ensures { λ b. ⌜ b ≡ ofSegment (holds p) e ⌝ }
+{
+    record::is_left(e) && segment::is_on(p, segment::segment_of(e))
+}
+
+fn first_held(s: &[i16], n: usize, p: Point) -> usize
+    requires { ⌜ width * n ≤ length (now s) ⌝ }
+    ensures { λ r. ⌜ Found (ofSegment (holds p)) (recordAt (now (s .entry))) 0 n r ⌝ }
+{
+    let mut i = 0;
+    while i < n {
+        let e = record_at(s, i);
+        if is_held(p, e) {
+            return i;
+        }
+        i += 1;
+    }
+    n
+}
+
+fn is_below(p: Point, e: Record) -> bool
+    ensures { λ b. ⌜ b ≡ ofSegment (belowPoint p) e ⌝ }
+{
+    record::is_left(e) && segment::is_below_point(p, segment::segment_of(e))
+}
+
+fn count_below(s: &[i16], n: usize, p: Point) -> usize
+    requires { ⌜ width * n ≤ length (now s) ⌝ }
+    ensures { λ m. ⌜ Counted (ofSegment (belowPoint p)) (recordAt (now (s .entry))) n m ⌝ }
+{
+    let mut i = 0;
+    let mut m = 0;
+    while i < n {
+        let e = record_at(s, i);
+        if is_below(p, e) {
+            m += 1;
+        }
+        i += 1;
+    }
+    m
+}
+
+fn place_of(s: &[i16], n: usize, p: Point) -> Place
+    requires { ⌜ width * n ≤ length (now s) ⌝ }
+    ensures { λ a. ⌜ a ≡ placeOf (firstRecords (now (s .entry)) n) p ⌝ }
+{
+    if first_held(s, n, p) < n {
+        return Place::Edge;
+    }
+    if count_below(s, n, p) % 2 == 1 {
+        return Place::Inside;
+    }
+    Place::Outside
+}
+
+// Whether a point lies inside the chart, outside it or on its edge.
+pub fn point(chart: &[i16], x: i16, y: i16) -> Place
+    ensures { λ a. ⌜ a ≡ placed (now (chart .entry)) (pointOf x y) ⌝ }
+{
+    let v = check(chart);
+    match v {
+        Verdict::Accepted => place_of(chart, chart.len() / WIDTH, grid::point_of(x, y)),
+        Verdict::Refused(r) => Place::Refused(r),
+    }
+}
+
+// ---- the nearest below
+
+// Whether e is counted below p and is higher there than t.
+fn is_higher_below(p: Point, t: Segment, e: Record) -> bool
+    ensures { λ b. ⌜ b ≡ higherBelow p t e ⌝ }
+{
+    is_below(p, e) && segment::is_higher(p.x, segment::segment_of(e), t)
+}
+
+fn first_higher_below(s: &[i16], n: usize, p: Point, t: Segment) -> usize
+    requires { ⌜ width * n ≤ length (now s) ⌝ }
+    ensures { λ r. ⌜ Found (higherBelow p t) (recordAt (now (s .entry))) 0 n r ⌝ }
+{
+    let mut i = 0;
+    while i < n {
+        let e = record_at(s, i);
+        if is_higher_below(p, t, e) {
+            return i;
+        }
+        i += 1;
+    }
+    n
+}
+
+fn is_nearest(s: &[i16], n: usize, p: Point, r: Record) -> bool
+    requires { ⌜ width * n ≤ length (now s) ⌝ }
+    ensures { λ b. ⌜ b ≡ nearest (firstRecords (now (s .entry)) n) p r ⌝ }
+{
+    is_below(p, r) && n <= first_higher_below(s, n, p, segment::segment_of(r))
+}
+
+fn first_nearest(s: &[i16], n: usize, p: Point) -> usize
+    requires { ⌜ width * n ≤ length (now s) ⌝ }
+    ensures { λ r. ⌜ Found (nearest (firstRecords (now (s .entry)) n) p) (recordAt (now (s .entry))) 0 n r ⌝ }
+{
+    let mut i = 0;
+    while i < n {
+        let r = record_at(s, i);
+        if is_nearest(s, n, p, r) {
+            return i;
+        }
+        i += 1;
+    }
+    n
+}
+
+fn nearest_of(s: &[i16], n: usize, p: Point) -> Nearest
+    requires { ⌜ width * n ≤ length (now s) ⌝ }
+    ensures { λ a. ⌜ a ≡ nearestOf (now (s .entry)) n p ⌝ }
+{
+    let i = first_nearest(s, n, p);
+    if i < n {
+        return Nearest::At(i);
+    }
+    Nearest::Nothing
+}
+
+// The index of the record whose segment is the nearest straight below a point.
+pub fn nearest_below(chart: &[i16], x: i16, y: i16) -> Nearest
+    ensures { λ a. ⌜ a ≡ nearestBelow (now (chart .entry)) (pointOf x y) ⌝ }
+{
+    let v = check(chart);
+    match v {
+        Verdict::Accepted => nearest_of(chart, chart.len() / WIDTH, grid::point_of(x, y)),
+        Verdict::Refused(r) => Nearest::Refused(r),
+    }
+}
+
+// ---- the run at a corner
+
+// The run of records whose dominating end is the point, as that very part of the chart; empty where there is none or
+// the chart is refused.
+pub fn corner(chart: &[i16], x: i16, y: i16) -> &[i16]
+    ensures { λ r. ⌜ Corner (chart .entry) (pointOf x y) r ⌝ }
+{
+    let v = check(chart);
+    match v {
+        Verdict::Accepted => parts::run_at(chart, grid::point_of(x, y)),
+        Verdict::Refused(r) => &chart[0..0],
+    }
+}
