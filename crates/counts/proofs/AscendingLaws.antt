@@ -2,6 +2,8 @@
 --     Steps xs        each member comes after the one before it: what a scan sees
 --     Ascending xs    each comes after all that stand before it
 --     ascending       the first gives the second, for a transitive order
+--     rising          the same by places: f 0 .. f (n - 1), where the order is transitive on them
+--     listed-ascending     what rises by places is an ascending list
 --     single          in an ascending list a member occurs once
 --     once            so does the image of each member, where the list is closed under f (what `involution` asks)
 -- Assumes nothing.
@@ -9,11 +11,13 @@ use mathlib.Core.Path.{_≡_, sym, ap, _∙_, subst}
 use mathlib.Core.Logic.{_⊎_, inl, inr}
 use mathlib.Core.Bool.{Bool, true, false}
 use mathlib.Core.List.{List, [], _∷_, List·Memᴰ·not-nil, List·Memᴰ·cases-cons}
-use Prim.Native.Nat.{_+_, _≤_}
+use Prim.Native.Nat.{ℕ, zero, suc, _+_, _<_, _≤_}
+use native.Mathlib.Nat.{eq-or-lt-of-le}
 use native.Mathlib.Omega.{arith}
-use Rattle.counts.specs.Count.{_∈_, ind, sum, count}
+use Rattle.counts.specs.Count.{_∈_, ind, sum, count, listed}
 use Rattle.counts.proofs.TestLaws.{is-false}
 use Rattle.counts.proofs.CountLaws.{count-off, count-some}
+use Rattle.counts.proofs.FirstLaws.{listed-mem}
 
 module _ {A : Type 0} (lt : A → A → Type 0) where
   abbrev pub Ascending : List A → Type 0
@@ -39,6 +43,29 @@ module _ {A : Type 0} (lt : A → A → Type 0) where
     ascending (x ∷ y ∷ ys) s =
         let a = ascending (y ∷ ys) (s .1) in
         (above x y ys (s .0) a, a)
+
+  module _ (f : ℕ → A) where
+    pub rising : (n : ℕ) → ((i j k : ℕ) → i < n → j < n → k < n → lt (f i) (f j) → lt (f j) (f k) → lt (f i) (f k))
+        → ((i : ℕ) → suc i < n → lt (f i) (f (suc i)))
+        → (i j : ℕ) → i < j → j < n → lt (f i) (f j)
+    rising n trans step i zero l h = absurd (omega arith)
+    rising n trans step i (suc j) l h = go (eq-or-lt-of-le l) (λ g. rising n trans step i j g (omega arith))
+      where
+        go : (suc i ≡ suc j) ⊎ (suc (suc i) ≤ suc j) → (i < j → lt (f i) (f j)) → lt (f i) (f (suc j))
+        go (inl e) ih = rw e at (step i (omega arith))
+        go (inr g) ih = trans i j (suc j) (omega arith) (omega arith) h (ih (omega arith)) (step j h)
+
+    pub listed-ascending : (a k : ℕ) → ((i j : ℕ) → a ≤ i → i < j → j < a + k → lt (f i) (f j))
+        → Ascending (listed f a k)
+    unfolding listed
+    listed-ascending a zero h = tt
+    listed-ascending a (suc k) h =
+        (first, listed-ascending (suc a) k (λ i j l g e. h i j (omega arith) g (omega arith)))
+      where
+        first : (y : A) → y ∈ listed f (suc a) k → lt (f a) y
+        first y m =
+            let r = listed-mem f (suc a) k y m in
+            rw (r .3) (h a (r .0) (omega arith) (omega arith) (omega arith))
 
   module _ (irrefl : (x : A) → lt x x → ⊥) (same : A → A → Bool) (same-true : (x y : A) → same x y ≡ true → x ≡ y) where
     ind-le : (b : Bool) → ind b ≤ 1

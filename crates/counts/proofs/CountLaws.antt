@@ -4,7 +4,7 @@
 --                                                      and no more than the length
 --     count-keep, keep-mem, mem-keep                   counts under a filter
 --     all-is, any-is                                   the tests are what they say
---     odd-plus, odd-add, odd-less, odd-same            parities of sums
+--     odd-plus, odd-add, odd-less, odd-same, odd-off   parities of sums; not odd is even
 -- Assumes nothing.
 use mathlib.Core.Path.{_≡_, refl, sym, ap, _∙_}
 use mathlib.Core.Logic.{_⊎_, inl, inr, _↔_}
@@ -16,7 +16,7 @@ use lib.Dec.{eqb}
 use lib.ListN.{length, take, drop, take-append-drop}
 use native.Mathlib.Omega.{arith}
 use borrow.Author.Tests.{eqb-false, eq-eqb, ne-eqb}
-use Rattle.counts.specs.Count.{_∈_, ind, sum, count, keep, all, any, odd, _⊕_}
+use Rattle.counts.specs.Count.{_∈_, ind, sum, count, keep, all, any, odd, Even, _⊕_}
 use Rattle.counts.proofs.TestLaws.{tests, and-true}
 use Rattle.counts.proofs.SumLaws.{sum-ext, sum-le, sum-zero, sum-append}
 
@@ -158,3 +158,7 @@ odd-less m n g e = sym (ap (λ k. odd k ⊕ odd n) e ∙ ap (λ b. b ⊕ odd n) 
 -- the same remainder is the same parity
 pub odd-same : (m n : ℕ) → m % 2 ≡ n % 2 → odd m ≡ odd n
 odd-same m n e = ap (λ k. eqb k 1) e
+
+-- what is not odd is even
+pub odd-off : (n : ℕ) → (odd n ≡ false) ↔ Even n
+odd-off n = ((λ e. omega (arith, eqb-false (n % 2) 1 e)), (λ e. ne-eqb (n % 2) 1 (omega arith)))

@@ -1,7 +1,7 @@
--- Of the members that pass a test, one of the greatest key; and when at most one passes.
+-- Of the members that pass a test, one of the greatest key; when some passes, and when at most one does.
 --     Top p key xs     a member that passes, of the greatest key among those that do
 --     highest          none passes, or there is such a one
---     any-member       `any` passes exactly if some member does
+--     any-member, any-none     `any` passes exactly if some member does, fails exactly if none does
 --     at-most-one      where any two that pass are one, and each member is there once, at most one passes
 -- Assumes nothing.
 use mathlib.Core.Path.{_≡_, refl, sym, _∙_, subst}
@@ -12,7 +12,7 @@ use mathlib.Core.List.{List·Memᴰ·head, List·Memᴰ·tail, List·Memᴰ·not
 use Prim.Native.Nat.{ℕ, _<_, _≤_}
 use native.Mathlib.Omega.{arith}
 use Rattle.counts.specs.Count.{_∈_, ind, count, any}
-use Rattle.counts.proofs.TestLaws.{lt-or-le}
+use Rattle.counts.proofs.TestLaws.{is-false, lt-or-le}
 use Rattle.counts.proofs.SumLaws.{sum-le}
 use Rattle.counts.proofs.CountLaws.{count-off, count-some, any-is}
 
@@ -72,11 +72,18 @@ module _ {A : Type 0} where
 
   pub any-member : (p : A → Bool) (xs : List A) → (any p xs ≡ true) ↔ ((x : A) × (x ∈ xs) × (p x ≡ true))
   any-member p xs =
-      ((λ t. go (any-is p xs .0 t) (highest p (λ x. 0) xs)), λ h. any-is p xs .1 (count-some p xs (h .0) (h .1) (h .2)))
+      let h = any-is p xs in
+      ((λ t. go (h .0 t) (highest p (λ x. 0) xs)), (λ w. h .1 (count-some p xs (w .0) (w .1) (w .2))))
     where
       go : 0 < count p xs → ((x : A) → x ∈ xs → p x ≡ false) ⊎ Top p (λ x. 0) xs → (x : A) × (x ∈ xs) × (p x ≡ true)
       go l (inl none) = absurd (omega (arith, count-off p xs none))
       go l (inr t) = (t .it, t .member, t .passes)
+
+  pub any-none : (p : A → Bool) (xs : List A) → (any p xs ≡ false) ↔ ((x : A) → x ∈ xs → p x ≡ false)
+  any-none p xs = (
+    (λ e x m. is-false _ (λ t. true≢false (sym (any-member p xs .1 (x, m, t)) ∙ e))),
+    (λ h. is-false _ (λ t. let w = any-member p xs .0 t in true≢false (sym (w .2) ∙ h (w .0) (w .1)))),
+  )
 
   pub at-most-one : (p : A → Bool) (same : A → A → Bool) (same-refl : (x : A) → same x x ≡ true) (xs : List A)
       → ((x : A) → x ∈ xs → count (λ y. same y x) xs ≤ 1)

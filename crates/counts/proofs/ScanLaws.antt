@@ -1,7 +1,8 @@
 -- What a loop that looks for the first, or counts, holds on its way, and the laws that keep it:
 -- for any test p and any f.
 --     firstFrom-low, -high, -passes, -fails    its range, and what stands at the first place, and before it
---     firstFrom-none, any-first                no place passes; it is below n exactly if some member passes
+--     firstFrom-least                          what passes is no earlier
+--     firstFrom-none, any-first                it is below n exactly if some place passes
 --     Seen p f a n i      from a up to i none passed, so the first from i on is the first from a on
 --     `Counted p f i m` of specs/Scan.antt is what a loop that counts holds at i
 --     scanning            for `search`: what closes the needs of such a loop
@@ -75,7 +76,6 @@ module _ {A : Type 0} (p : A → Bool) (f : ℕ → A) (a n : ℕ) (le : a ≤ n
       ∙ sym (ap p (listed-at f (f a) a (n - a) k short))
       ∙ firstIndex-fails p (f a) (listed f a (n - a)) k (omega arith)
 
-  -- what passes is no earlier than the first
   pub firstFrom-least : (i : ℕ) → a ≤ i → p (f i) ≡ true → firstFrom p f a n ≤ i
   firstFrom-least i h t =
       ⊎-elim (λ l. absurd (true≢false (sym t ∙ firstFrom-fails i h l))) (λ l. l) (lt-or-le i (firstFrom p f a n))
@@ -98,8 +98,9 @@ module _ {A : Type 0} where
 
       back : firstFrom p f 0 n < n → any p (listed f 0 n) ≡ true
       back l =
-          any-member p (listed f 0 n) .1
-          (f (firstFrom p f 0 n), mem-listed f 0 n (firstFrom p f 0 n) zero-le (omega arith), firstFrom-passes p f 0 n zero-le l)
+          let i : ℕ = firstFrom p f 0 n in
+          let member = mem-listed f 0 n i zero-le (omega arith) in
+          any-member p (listed f 0 n) .1 (f i, member, firstFrom-passes p f 0 n zero-le l)
 
 pub record Seen {A : Type 0} (p : A → Bool) (f : ℕ → A) (a n i : ℕ) : Type 0 where
   pub low : a ≤ i

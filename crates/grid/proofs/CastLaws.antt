@@ -1,10 +1,11 @@
 -- What the casts, the sum and the difference of `count_of` and `number_at` ask, as the language states them: a signed
 -- value goes through its bits, `toZ w (ofZ w z)`. Here it is brought back to the number once.
 --     widened-fits, sum-fits, count-is              up: a number, widened, and 32,768 more
+--     pointOf-passed                                two coordinates passed on to a call
 --     difference-fits, narrowed-fits, number-is     down: a count, widened, and 32,768 less
 -- The sum and the difference fit at any step k, so that a wrong step is refused for what it answers.
 -- Assumes nothing.
-use mathlib.Core.Path.{_≡_, refl}
+use mathlib.Core.Path.{_≡_, refl, ap₂, _∙_}
 use mathlib.Core.Bool.{Bool, true, false, cond}
 use Prim.Native.Nat.{ℕ, suc, _-_, _<_}
 use native.Mathlib.Omega.{arith}
@@ -14,7 +15,8 @@ use lib.Signed.{mag}
 use mir.Syntax.{w16, w32}
 use mir.Val.{SFits, toZ, ofZ}
 use mir.ValLaws.{toZ-ofZ, toZ-pos}
-use Rattle.grid.specs.Coordinates.{up, down}
+use Rattle.plane.specs.declared.Point.{Point}
+use Rattle.grid.specs.Coordinates.{up, down, pointOf}
 use Rattle.grid.proofs.CoordinateLaws.{up-small, up-sum, down-fits}
 
 wider : (z : ℤ) → mag z < 32768 → SFits w32 z
@@ -27,6 +29,10 @@ mag-sub m n h g = go (ltb m n) refl
     go : (b : Bool) → ltb m n ≡ b → mag (cond b (negsuc (n - suc m)) (pos (m - n))) < 65537
     go true e = omega arith
     go false e = omega arith
+
+pub pointOf-passed : (x y : ℤ) {p : Point} → SFits w16 x → SFits w16 y
+    → p ≡ pointOf (toZ w16 (ofZ w16 x)) (toZ w16 (ofZ w16 y)) → p ≡ pointOf x y
+pointOf-passed x y f g e = e ∙ ap₂ pointOf (toZ-ofZ w16 x f) (toZ-ofZ w16 y g)
 
 -- ---- up
 

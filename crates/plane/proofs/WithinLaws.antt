@@ -1,25 +1,37 @@
--- Within a segment, by weights: `within` is being strictly between its ends.
+-- At an end of a segment, and within it by weights: `within` is being strictly between its ends.
 --     EndOf s p         p is an end of s
+--     endsAt-is         the test `endsAt` is that
 --     Between s p       p lies strictly between the ends of s: α parts of one and β of the other, both positive
 --     within-between    what passes the test does so, whichever end of s is the smaller
 --     within-is         for s with the smaller end first, just that passes
 -- Assumes nothing.
-use mathlib.Core.Path.{_≡_, ap}
-use mathlib.Core.Logic.{_↔_, _⊎_, inl, inr}
-use mathlib.Core.Bool.{true}
+use mathlib.Core.Path.{_≡_, ap, _∙_}
+use mathlib.Core.Logic.{_↔_, _⊎_, inl, inr, ⊎-elim}
+use mathlib.Core.Bool.{true, _||_}
 use Prim.Native.Nat.{ℕ, _+_, _-_, _*_, _<_}
 use native.Mathlib.Nat.{mul-lt-mul-of-pos-left, lt-of-mul-lt-mul-left, eq-of-mul-eq-mul-left}
 use native.Mathlib.Omega.{arith}
+use Rattle.counts.proofs.TestLaws.{or-true, or-left, or-right}
 use Rattle.plane.specs.declared.Point.{Point}
 use Rattle.plane.specs.declared.Segment.{Segment}
-use Rattle.plane.specs.Points.{Forward}
+use Rattle.plane.specs.Points.{same, Forward}
 use Rattle.plane.specs.Turns.{plus, minus}
 use Rattle.plane.specs.Touching.{within}
-use Rattle.plane.proofs.PointLaws.{Before, before-true, before-intro}
+use Rattle.plane.specs.Columns.{endsAt}
+use Rattle.plane.proofs.PointLaws.{Before, before-true, before-intro, same-true, same-refl}
 use Rattle.plane.proofs.SideLaws.{Level, within-true, within-intro}
 
 abbrev pub EndOf : Segment → Point → Type 0
 EndOf s p = (s .a ≡ p) ⊎ (s .b ≡ p)
+
+pub endsAt-is : (p : Point) (s : Segment) → (endsAt p s ≡ true) ↔ EndOf s p
+unfolding endsAt
+endsAt-is p s =
+    ((λ e. ⊎-elim (λ h. inl (same-true _ _ h)) (λ h. inr (same-true _ _ h)) (or-true (same (s .a) p) _ e)), back)
+  where
+    back : EndOf s p → same (s .a) p || same (s .b) p ≡ true
+    back (inl h) = or-left _ (ap (λ q. same q p) h ∙ same-refl p)
+    back (inr h) = or-right (same (s .a) p) (ap (λ q. same q p) h ∙ same-refl p)
 
 pub record Between (s : Segment) (p : Point) : Type 0 where
   pub α : ℕ

@@ -40,7 +40,7 @@ below rs p = count (ofSegment (belowPoint p)) rs
 unfoldable pub placeOf : List Record → Point → Place
 placeOf rs p = cond (held rs p) place.Edge (cond (odd (below rs p)) place.Inside place.Outside)
 
-abbrev placeIf : Verdict → Place → Place
+abbrev pub placeIf : Verdict → Place → Place
 placeIf Accepted a = a
 placeIf (Refused r) a = place.Refused r
 
@@ -60,7 +60,7 @@ nearestOf s n p =
     let i = firstFrom (nearest (firstRecords s n) p) (recordAt s) 0 n in
     cond (ltb i n) (near.At i) near.Nothing
 
-abbrev nearestIf : Verdict → Nearest → Nearest
+abbrev pub nearestIf : Verdict → Nearest → Nearest
 nearestIf Accepted a = a
 nearestIf (Refused r) a = near.Refused r
 

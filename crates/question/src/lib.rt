@@ -94,9 +94,10 @@ fn place_of(s: &[i16], n: usize, p: Point) -> Place
 pub fn point(chart: &[i16], x: i16, y: i16) -> Place
     ensures { λ a. ⌜ a ≡ placed (now (chart .entry)) (pointOf x y) ⌝ }
 {
+    let p = grid::point_of(x, y);
     let v = check(chart);
     match v {
-        Verdict::Accepted => place_of(chart, chart.len() / WIDTH, grid::point_of(x, y)),
+        Verdict::Accepted => place_of(chart, chart.len() / WIDTH, p),
         Verdict::Refused(r) => Place::Refused(r),
     }
 }
@@ -162,9 +163,10 @@ fn nearest_of(s: &[i16], n: usize, p: Point) -> Nearest
 pub fn nearest_below(chart: &[i16], x: i16, y: i16) -> Nearest
     ensures { λ a. ⌜ a ≡ nearestBelow (now (chart .entry)) (pointOf x y) ⌝ }
 {
+    let p = grid::point_of(x, y);
     let v = check(chart);
     match v {
-        Verdict::Accepted => nearest_of(chart, chart.len() / WIDTH, grid::point_of(x, y)),
+        Verdict::Accepted => nearest_of(chart, chart.len() / WIDTH, p),
         Verdict::Refused(r) => Nearest::Refused(r),
     }
 }
@@ -176,9 +178,10 @@ pub fn nearest_below(chart: &[i16], x: i16, y: i16) -> Nearest
 pub fn corner(chart: &[i16], x: i16, y: i16) -> &[i16]
     ensures { λ r. ⌜ Corner (chart .entry) (pointOf x y) r ⌝ }
 {
+    let p = grid::point_of(x, y);
     let v = check(chart);
     match v {
-        Verdict::Accepted => parts::run_at(chart, grid::point_of(x, y)),
-        Verdict::Refused(r) => &chart[0..0],
+        Verdict::Accepted => parts::run_at(chart, p),
+        Verdict::Refused(_) => &chart[0..0],
     }
 }

@@ -1,4 +1,5 @@
 -- Left and right halves, and the way that each goes from its dominating end.
+--     backward           a proper record that is no left half goes back
 --     left-otherHalf     the other half of a proper record is of the other kind
 --     Goes b p q         from p, q lies where the other end of a left half (b) or of a right half does
 --     way b p q          the way from p to q; a right half's is turned about p
@@ -22,8 +23,7 @@ use Rattle.record.specs.declared.Record.{Record}
 use Rattle.record.specs.Order.{left, otherHalf, Proper, gap, squareLength}
 use Rattle.record.proofs.WayLaws.{Way, Ahead, fore, back, reach}
 
--- a proper record that is no left half goes back
-backward : (r : Record) → Proper r → left r ≡ false → before (r .other) (r .dom) ≡ true
+pub backward : (r : Record) → Proper r → left r ≡ false → before (r .other) (r .dom) ≡ true
 backward r p e = by-order (trichotomy (r .dom) (r .other))
   where
     by-order : (before (r .dom) (r .other) ≡ true) ⊎ ((r .dom ≡ r .other) ⊎ (before (r .other) (r .dom) ≡ true))

@@ -100,7 +100,11 @@ fn is_split(s: Segment, t: Segment) -> bool
 pub fn is_touching(s: Segment, t: Segment) -> bool
     ensures { λ b. ⌜ b ≡ touches s t ⌝ }
 {
-    is_split(s, t) & is_split(t, s) | is_within(s, t.a) | is_within(s, t.b) | is_within(t, s.a) | is_within(t, s.b)
+    is_split(s, t) & is_split(t, s)
+        | is_within(s, t.a)
+        | is_within(s, t.b)
+        | is_within(t, s.a)
+        | is_within(t, s.b)
 }
 
 // Whether t is counted for the mark of s.
@@ -111,7 +115,8 @@ pub fn is_counted_for(s: Segment, t: Segment) -> bool
         return is_reaching(s.a.x, t) & !grid::turns_right(t.a, t.b, s.a);
     }
     is_covering(s.a.x, t)
-        & (grid::turns_left(t.a, t.b, s.a) | grid::is_straight(t.a, t.b, s.a) & !grid::turns_left(s.a, s.b, t.b))
+        & (grid::turns_left(t.a, t.b, s.a)
+            | grid::is_straight(t.a, t.b, s.a) & !grid::turns_left(s.a, s.b, t.b))
 }
 
 // ---- which of two is the higher

@@ -8,7 +8,7 @@ use Rattle.segment.proofs.is_split.Tie as tie
 
 returns : tie.Need-returns
 unfolding splits
-returns c = 
+returns c =
     ap₂ _||_ (ap₂ _&&_ (c .before .before .before .turns-left .ensures) (c .before .before .turns-right .ensures))
     (ap₂ _&&_ (c .before .turns-right2 .ensures) (c .turns-left2 .ensures))
 

@@ -8,7 +8,7 @@ use Rattle.segment.proofs.is_touching.Tie as tie
 
 returns : tie.Need-returns
 unfolding touches
-returns c = 
+returns c =
     let first = c .before .before .before .before in
     ap₂ _||_
     (ap₂ _||_

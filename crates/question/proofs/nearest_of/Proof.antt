@@ -1,0 +1,12 @@
+-- `nearest_of` meets its contract: the first that is nearest, if there is one. Assumes nothing.
+use borrow.Author.Needs.{needs}
+use Rattle.question.proofs.NearestLaws.{nearestOf-at, nearestOf-nothing}
+use Rattle.question.proofs.nearest_of.Statement.{statement}
+use Rattle.question.proofs.nearest_of.Tie as tie
+
+ruleset all = (needs, nearestOf-at, nearestOf-nothing)
+
+pub nearest-of-spec : {M : Type 1} → statement M
+nearest-of-spec =
+    tie.close
+    (tie.spec (λ c κs. search needs) (λ c. search all) (λ c. search all))
