@@ -6,73 +6,15 @@
 //!
 //! It shares nothing with the library but the questions. The last line is 'N passed, M failed'.
 
-use std::io::Write;
-use std::process::{Command, Stdio};
-
-type Point = (i128, i128);
-
-#[derive(Clone, Copy, Debug)]
-struct Record {
-    dominating: Point,
-    other: Point,
+mod judging {
+    pub mod asking;
+    pub mod records;
 }
+
+use judging::asking::{ask, count, Dice};
+use judging::records::{comes_first, determinant, direction, record_of, run_at};
 
 // ---- the rules
-
-/// "Points are ordered by x, then y."
-fn smaller(p: Point, q: Point) -> bool {
-    p.0 < q.0 || (p.0 == q.0 && p.1 < q.1)
-}
-
-fn direction(from: Point, to: Point) -> Point {
-    (to.0 - from.0, to.1 - from.1)
-}
-
-fn determinant(u: Point, v: Point) -> i128 {
-    u.0 * v.1 - u.1 * v.0
-}
-
-/// "A record is a left half if its dominating end is the smaller, else a right half."
-fn is_left_half(r: Record) -> bool {
-    smaller(r.dominating, r.other)
-}
-
-fn length_squared(r: Record) -> i128 {
-    let d = direction(r.dominating, r.other);
-    d.0 * d.0 + d.1 * d.1
-}
-
-/// "Order of two records: smaller dominating end first; at one end, right halves before left; then the one that turns
-/// counter-clockwise onto the other (positive determinant of their directions); where that determinant is zero, the
-/// shorter."
-fn comes_first(r: Record, e: Record) -> bool {
-    if r.dominating != e.dominating {
-        return smaller(r.dominating, e.dominating);
-    }
-    if is_left_half(r) != is_left_half(e) {
-        return !is_left_half(r);
-    }
-    let d = determinant(direction(r.dominating, r.other), direction(e.dominating, e.other));
-    if d != 0 {
-        return d > 0;
-    }
-    length_squared(r) < length_squared(e)
-}
-
-fn record_of(numbers: &[i16]) -> Record {
-    let n = |i: usize| numbers[i] as i128;
-    Record { dominating: (n(0), n(1)), other: (n(2), n(3)) }
-}
-
-/// "The run of records at a corner, those whose dominating end is the point asked for." An array that is no chart may
-/// have several such runs: the first is meant.
-fn run_at(numbers: &[i16], p: Point) -> &[i16] {
-    let there = |i: usize| record_of(&numbers[5 * i..]).dominating == p;
-    let records = numbers.len() / 5;
-    let Some(start) = (0..records).find(|&i| there(i)) else { return &[] };
-    let end = (start..records).find(|&i| !there(i)).unwrap_or(records);
-    &numbers[5 * start..5 * end]
-}
 
 /// "Five numbers, from the second only if its head comes strictly earlier or the first has fewer than five numbers
 /// left; an empty part when both have."
@@ -88,25 +30,7 @@ fn smaller_head<'a>(a: &'a [i16], b: &'a [i16]) -> &'a [i16] {
 
 // ---- questions
 
-/// A small generator of our own, so that a seed gives the same questions everywhere.
-struct Dice(u64);
-
 impl Dice {
-    fn roll(&mut self, n: u64) -> u64 {
-        self.0 = self.0.wrapping_mul(6364136223846793005).wrapping_add(1442695040888963407);
-        (self.0 >> 33) % n
-    }
-
-    /// Numbers of a few kinds: the grid's ends and what lies beside them, small ones, any.
-    fn number(&mut self) -> i16 {
-        const EDGES: [i16; 9] = [-32768, -32767, -16384, -1, 0, 1, 16384, 32766, 32767];
-        match self.roll(4) {
-            0 => EDGES[self.roll(9) as usize],
-            1 | 2 => self.roll(5) as i16 - 2,
-            _ => self.roll(65536) as u16 as i16,
-        }
-    }
-
     fn point(&mut self) -> [i16; 2] {
         [self.number(), self.number()]
     }
@@ -195,11 +119,6 @@ impl Question {
     }
 }
 
-/// A number counted from the grid's lower end, lowest byte first.
-fn count(v: i16) -> [u8; 2] {
-    ((v as i32 + 32768) as u16).to_le_bytes()
-}
-
 fn part(numbers: &[i16]) -> Vec<u8> {
     let mut out = vec![numbers.len() as u8];
     out.extend(numbers.iter().flat_map(|&v| count(v)));
@@ -207,17 +126,6 @@ fn part(numbers: &[i16]) -> Vec<u8> {
 }
 
 // ---- asking
-
-fn ask(probe: &str, questions: &[u8]) -> Vec<u8> {
-    let mut child = Command::new(probe)
-        .stdin(Stdio::piped())
-        .stdout(Stdio::piped())
-        .spawn()
-        .unwrap_or_else(|e| panic!("{probe}: {e}"));
-    // The probe reads all questions before it answers one, so writing first cannot block.
-    child.stdin.take().unwrap().write_all(questions).expect("the questions are taken");
-    child.wait_with_output().expect("the answers come").stdout
-}
 
 fn main() {
     let args: Vec<String> = std::env::args().collect();

@@ -2,10 +2,11 @@
 -- smallest record index at fault").
 --     limit              how many records a chart may have
 --     refused k i        refusal k at record i
---     number v, index v  the paper's number and index for each case: 0 and 0 where the chart is accepted
+--     noRefusal          0, with index 0
+--     refusalOf v        the paper's number and index for each case: 0 and 0 where the chart is accepted
 --     firstly k i n v    refusal k at i where i is one of n records; v where there is none
---     judged s n         of the first n records: 3 to 9, the first record at fault of each kind (specs/Charts.antt), kind
---                        after kind; a first place that is n means none
+--     judged s n         of the first n records: 3 to 9, the first record at fault of each kind (specs/Charts.antt),
+--                        kind after kind; a first place that is n means none
 --     verdict s          1  length is no multiple of five
 --                        2  more than 512 records
 --                        else as its records are judged
@@ -31,13 +32,12 @@ limit = 512
 abbrev pub refused : ℕ → ℕ → Verdict
 refused k i = Refused (record { number = k; index = i })
 
-abbrev pub number : Verdict → ℕ
-number Accepted = 0
-number (Refused r) = r .number
+abbrev pub noRefusal : Refusal
+noRefusal = record { number = 0; index = 0 }
 
-abbrev pub index : Verdict → ℕ
-index Accepted = 0
-index (Refused r) = r .index
+abbrev pub refusalOf : Verdict → Refusal
+refusalOf Accepted = noRefusal
+refusalOf (Refused r) = r
 
 abbrev pub firstly : ℕ → ℕ → ℕ → Verdict → Verdict
 firstly k i n v = cond (ltb i n) (refused k i) v

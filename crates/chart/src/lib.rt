@@ -11,7 +11,7 @@ ghost use Rattle.record.specs.Records.{width, recordAt, firstRecords};
 ghost use Rattle.segment.specs.Segments.{ofSegment, isRecord};
 ghost use Rattle.chart.specs.Charts.{badMark, notAfter, noOtherHalf, touching, oddEnd, wrongMark};
 ghost use Rattle.chart.specs.Charts.{equalEnds, countedMark};
-ghost use Rattle.chart.specs.Verdicts.{refused, judged, verdict};
+ghost use Rattle.chart.specs.Verdicts.{limit, refused, judged, verdict};
 use plane::Point;
 use plane::Segment;
 use record::Record;
@@ -267,7 +267,8 @@ fn has_wrong_mark(s: &[i16], n: usize, r: Record) -> bool
     requires { ⌜ width * n ≤ length (now s) ⌝ }
     ensures { λ b. ⌜ b ≡ wrongMark (firstRecords (now (s .entry)) n) r ⌝ }
 {
-    r.mark != counted_mark(s, n, segment::segment_of(r))
+    let counted = counted_mark(s, n, segment::segment_of(r));
+    r.mark != counted
 }
 
 fn first_wrong_mark(s: &[i16], n: usize) -> usize
@@ -293,9 +294,10 @@ fn refused(number: u16, index: usize) -> Verdict
     Verdict::Refused(Refusal { number, index })
 }
 
-// The first n records, row after row of the table.
+// The first n records, row after row of the table. Never more than the limit: so the work, which grows as the square of
+// n, is bounded whatever the array's length.
 fn judge(s: &[i16], n: usize) -> Verdict
-    requires { ⌜ width * n ≤ length (now s) ⌝ }
+    requires { ⌜ (width * n ≤ length (now s)) × (n ≤ limit) ⌝ }
     ensures { λ v. ⌜ v ≡ judged (now (s .entry)) n ⌝ }
 {
     let equal = first_equal_ends(s, n);

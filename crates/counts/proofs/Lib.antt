@@ -7,4 +7,5 @@ pub mod HighestLaws
 pub mod AscendingLaws
 pub mod TelescopeLaws
 pub mod ScanLaws
+pub mod LoopLaws
 pub mod ReadLaws

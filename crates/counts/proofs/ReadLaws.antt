@@ -12,8 +12,10 @@ use lib.Dec.{ltb, leb}
 use Rattle.counts.specs.Count.{any, listed}
 use Rattle.counts.specs.Scan.{Found, Counted}
 use Rattle.counts.proofs.TestLaws.{leb-not}
-use Rattle.counts.proofs.ScanLaws.{Seen, seen-none, seen-hit, seen-more, seen-all, any-first}
-use Rattle.counts.proofs.ScanLaws.{counted-none, counted-yes, counted-no, counted-all}
+use Rattle.counts.proofs.ScanLaws.{any-first}
+use Rattle.counts.proofs.LoopLaws.{Seen, seen-none, seen-hit, seen-more, seen-all}
+use Rattle.counts.proofs.LoopLaws.{counted-none, counted-yes, counted-no, counted-all}
+use Rattle.counts.proofs.LoopLaws.{summed-none, summed-more, summed-all}
 
 module _ {A : Type 0} (p : A → Bool) (f : ℕ → A) where
   pub read-hit : {a n i : ℕ} {x : A} {b : Bool} → Seen p f a n i → i < n → x ≡ f i → b ≡ p x → b ≡ true
@@ -38,5 +40,16 @@ module _ {A : Type 0} (p : A → Bool) (f : ℕ → A) where
   pub found-none : {n r : ℕ} → Found p f 0 n r → leb n r ≡ not (any p (listed f 0 n))
   found-none {n} {r} h = leb-not n r ∙ ap not (found-any h)
 
-pub ruleset reading =
-    (seen-none, read-hit, read-more, seen-all, counted-none, read-yes, read-no, counted-all)
+pub ruleset reading = (
+  seen-none,
+  read-hit,
+  read-more,
+  seen-all,
+  counted-none,
+  read-yes,
+  read-no,
+  counted-all,
+  summed-none,
+  summed-more,
+  summed-all,
+)

@@ -1,27 +1,21 @@
--- What a loop that looks for the first, or counts, holds on its way, and the laws that keep it:
--- for any test p and any f.
+-- The first place from a on at which f passes a test: `firstFrom` of specs/Scan.antt, for any test p and any f.
+--     firstFrom-end, -hit, -miss               its value by the first step
 --     firstFrom-low, -high, -passes, -fails    its range, and what stands at the first place, and before it
 --     firstFrom-least                          what passes is no earlier
---     firstFrom-none, any-first                it is below n exactly if some place passes
---     Seen p f a n i      from a up to i none passed, so the first from i on is the first from a on
---     `Counted p f i m` of specs/Scan.antt is what a loop that counts holds at i
---     scanning            for `search`: what closes the needs of such a loop
--- Each law takes what the code has, b ≡ p (f i) and b ≡ true, and gives the next invariant or the contract.
+--     firstFrom-none, any-first                no place passes; it is below n exactly if some member passes
 -- Assumes nothing.
-use mathlib.Core.Path.{_≡_, refl, sym, ap, _∙_}
+use mathlib.Core.Path.{_≡_, sym, ap, _∙_}
 use mathlib.Core.Logic.{_↔_, ⊎-elim}
 use mathlib.Core.Bool.{Bool, true, false, true≢false}
 use Prim.Native.Nat.{ℕ, suc, _+_, _-_, _≤_, _<_, zero-le}
-use native.Mathlib.Numerals.{add-one}
 use native.Mathlib.Omega.{arith}
 use lib.Dec.{ltb}
 use borrow.Author.Tests.{ltb-true, ltb-false, lt-ltb}
-use Rattle.counts.specs.Count.{_∈_, ind, sum, count, any, firstIndex, listed}
-use Rattle.counts.specs.Scan.{firstFrom, Found, Counted}
+use Rattle.counts.specs.Count.{_∈_, any, firstIndex, listed}
+use Rattle.counts.specs.Scan.{firstFrom}
 use Rattle.counts.proofs.TestLaws.{is-false, same-test, lt-or-le}
-use Rattle.counts.proofs.CountLaws.{count-append}
 use Rattle.counts.proofs.FirstLaws.{firstIndex-most, firstIndex-passes, firstIndex-fails}
-use Rattle.counts.proofs.FirstLaws.{listed-snoc, listed-length, listed-at, listed-mem, mem-listed}
+use Rattle.counts.proofs.FirstLaws.{listed-length, listed-at, listed-mem, mem-listed}
 use Rattle.counts.proofs.HighestLaws.{any-member}
 
 module _ {A : Type 0} (p : A → Bool) (f : ℕ → A) where
@@ -101,67 +95,3 @@ module _ {A : Type 0} where
           let i : ℕ = firstFrom p f 0 n in
           let member = mem-listed f 0 n i zero-le (omega arith) in
           any-member p (listed f 0 n) .1 (f i, member, firstFrom-passes p f 0 n zero-le l)
-
-pub record Seen {A : Type 0} (p : A → Bool) (f : ℕ → A) (a n i : ℕ) : Type 0 where
-  pub low : a ≤ i
-  pub high : i ≤ n
-  pub rest : firstFrom p f i n ≡ firstFrom p f a n
-
-module _ {A : Type 0} (p : A → Bool) (f : ℕ → A) {a n : ℕ} where
-  pub seen-none : a ≤ n → Seen p f a n a
-  seen-none h = record { low = omega arith; high = h; rest = refl }
-
-  pub seen-more : {i : ℕ} {b : Bool} → Seen p f a n i → i < n → b ≡ p (f i) → b ≡ false → Seen p f a n (i + 1)
-  seen-more {i} s l e t = record {
-    low = omega (arith, s .low);
-    high = omega arith;
-    rest = ap (λ j. firstFrom p f j n) (add-one i) ∙ sym (firstFrom-miss p f i n l (sym e ∙ t)) ∙ s .rest;
-  }
-
-  pub seen-hit : {i : ℕ} {b : Bool} → Seen p f a n i → i < n → b ≡ p (f i) → b ≡ true → Found p f a n i
-  seen-hit {i} s l e t =
-      record { is = sym (firstFrom-hit p f i n l (sym e ∙ t)) ∙ s .rest; low = s .low; high = s .high }
-
-  pub seen-all : {i : ℕ} → Seen p f a n i → n ≤ i → Found p f a n n
-  seen-all {i} s l =
-      let e : i ≡ n = omega (arith, s .high) in
-      record {
-        is = sym (firstFrom-end p f n) ∙ ap (λ j. firstFrom p f j n) (sym e) ∙ s .rest;
-        low = omega (arith, s .low);
-        high = omega arith;
-      }
-
--- ---- how many
-
-module _ {A : Type 0} (p : A → Bool) (f : ℕ → A) where
-  pub count-more : (i : ℕ) → count p (listed f 0 (i + 1)) ≡ count p (listed f 0 i) + ind (p (f i))
-  unfolding sum
-  count-more i =
-      ap (λ n. count p (listed f 0 n)) (add-one i)
-      ∙ ap (count p) (listed-snoc f 0 i)
-      ∙ count-append p (listed f 0 i) _
-      ∙ go (0 + i) (omega arith)
-    where
-      go : (j : ℕ) → j ≡ i → count p (listed f 0 i) + (ind (p (f j)) + 0) ≡ count p (listed f 0 i) + ind (p (f i))
-      go j e = rw e (omega arith)
-
-  pub counted-none : Counted p f 0 0
-  unfolding sum listed
-  counted-none = record { is = refl; most = omega arith }
-
-  pub counted-yes : {i m k : ℕ} {b : Bool} → Counted p f i m → b ≡ p (f i) → b ≡ true → k ≡ m + 1
-      → Counted p f (i + 1) k
-  counted-yes {i} {m} {k} s e t h =
-      record { is = omega (arith, s .is, count-more i, ap ind (sym e ∙ t)); most = omega (arith, s .most) }
-
-  pub counted-no : {i m k : ℕ} {b : Bool} → Counted p f i m → b ≡ p (f i) → b ≡ false → k ≡ m → Counted p f (i + 1) k
-  counted-no {i} {m} {k} s e t h =
-      record { is = omega (arith, s .is, count-more i, ap ind (sym e ∙ t)); most = omega (arith, s .most) }
-
-  pub counted-all : {i m n : ℕ} → Counted p f i m → i ≤ n → n ≤ i → Counted p f n m
-  counted-all {i} {m} {n} s a b =
-      let e : i ≡ n = omega arith in
-      record { is = s .is ∙ ap (λ j. count p (listed f 0 j)) e; most = omega (arith, s .most) }
-
-pub ruleset scanning =
-    (seen-none, seen-hit, seen-more, seen-all, counted-none, counted-yes, counted-no, counted-all)

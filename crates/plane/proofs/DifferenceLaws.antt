@@ -1,17 +1,19 @@
 -- Integers as differences of two natural numbers: sums, differences and products are taken in ℕ, and so is the sign.
 --     diff m n          m less n
 --     diff-same         what is equal crosswise is one integer
+--     diff-neg                         of one, turned about
 --     diff-add, diff-sub, diff-mul     of two differences
+--     diff-mag                         it is no larger than what it is the difference of
 --     diff-positive, diff-negative, diff-zero     the sign is the order of m and n
 -- Assumes nothing.
 use mathlib.Core.Path.{_≡_, refl, sym, ap, _∙_, subst}
 use mathlib.Core.Logic.{_↔_}
 use mathlib.Core.Bool.{Bool, true, false, cond}
-use Prim.Native.Nat.{ℕ, zero, suc, _+_, _-_, _*_}
+use Prim.Native.Nat.{ℕ, zero, suc, _+_, _-_, _*_, _<_}
 use native.Mathlib.Omega.{arith}
 use lib.Dec.{ltb}
 use lib.IntN.{ℤ, pos, negsuc, negℤ, _+ℤ_, _-ℤ_, _*ℤ_}
-use lib.Signed.{ltZ}
+use lib.Signed.{mag, ltZ}
 use borrow.Author.Tests.{ltb-true, ltb-false, lt-ltb, le-ltb}
 
 abbrev pub diff : ℕ → ℕ → ℤ
@@ -82,6 +84,9 @@ is-mul z w m n k l e f =
 pub diff-same : (m n k l : ℕ) → m + l ≡ k + n → diff m n ≡ diff k l
 diff-same m n k l e = is-only (diff k l) m n (omega (arith, is-diff k l))
 
+pub diff-neg : (m n : ℕ) → negℤ (diff m n) ≡ diff n m
+diff-neg m n = sym (is-only (negℤ (diff m n)) n m (is-neg (diff m n) m n (is-diff m n)))
+
 pub diff-add : (m n k l : ℕ) → diff m n +ℤ diff k l ≡ diff (m + k) (n + l)
 diff-add m n k l =
     let e = is-add (diff m n) (diff k l) m n k l (is-diff m n) (is-diff k l) in
@@ -97,6 +102,13 @@ pub diff-mul : (m n k l : ℕ) → diff m n *ℤ diff k l ≡ diff (m * k + n * 
 diff-mul m n k l =
     let e = is-mul (diff m n) (diff k l) m n k l (is-diff m n) (is-diff k l) in
     sym (is-only (diff m n *ℤ diff k l) (m * k + n * l) (m * l + n * k) e)
+
+pub diff-mag : (m n b : ℕ) → m < b → n < b → mag (diff m n) < b
+diff-mag m n b h k = go (diff m n) (is-diff m n)
+  where
+    go : (z : ℤ) → Is z m n → mag z < b
+    go (pos d) e = omega arith
+    go (negsuc d) e = omega arith
 
 -- the order of two numbers is known from their difference
 ltb-same : (m n k l : ℕ) → m + l ≡ k + n → ltb m n ≡ ltb k l

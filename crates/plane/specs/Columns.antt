@@ -11,8 +11,8 @@
 --     breadth s        how far s goes across
 --     rise x s         the height of s at column x, times its breadth: a whole number
 --     higher x s t     at column x, s is higher than t; or both start at one point, and s is higher just right of it
---     holds p s        p lies on s, ends included
 --     endsAt p s       p is an end of s
+--     holds p s        p lies on s, ends included
 -- Assumes nothing.
 use mathlib.Core.Bool.{Bool, not, cond, _&&_, _||_}
 use Prim.Native.Nat.{ℕ, _+_, _-_, _*_}
@@ -49,8 +49,8 @@ rise x s = s .a .y * (s .b .x - x) + s .b .y * (x - s .a .x)
 unfoldable pub higher : ℕ → Segment → Segment → Bool
 higher x s t = ltb (rise x t * breadth s) (rise x s * breadth t) || (same (s .a) (t .a) && above (s .b) t)
 
-unfoldable pub holds : Point → Segment → Bool
-holds p s = same (s .a) p || same (s .b) p || within s p
-
 unfoldable pub endsAt : Point → Segment → Bool
 endsAt p s = same (s .a) p || same (s .b) p
+
+unfoldable pub holds : Point → Segment → Bool
+holds p s = endsAt p s || within s p

@@ -8,7 +8,6 @@
 // A part is answered by its length, one byte, and its numbers.
 ghost use Prim.Native.Nat.{_+_, _≤_, _<_};
 ghost use lib.ListN.{length};
-use grid::Coord;
 use grid::Turn;
 use plane::Point;
 

@@ -51,19 +51,22 @@ module _ (s : List ℤ) (n : ℕ) (p : Point) (r : Record) {b : Bool} (h : b ≡
 module _ (s : List ℤ) (n : ℕ) (p : Point) {i : ℕ} (h : Found (nearest (firstRecords s n) p) (recordAt s) 0 n i) where
   pub nearestOf-at : i < n → near.At i ≡ nearestOf s n p
   unfolding nearestOf
-  nearestOf-at l = ap (λ b. cond b (near.At i) near.Nothing) (sym (lt-ltb i n l))
+  nearestOf-at l =
+      ap (λ b. cond b (near.At i) near.Nothing) (sym (lt-ltb i n l))
       ∙ ap (λ i. cond (ltb i n) (near.At i) near.Nothing) (h .is)
 
   pub nearestOf-nothing : n ≤ i → near.Nothing ≡ nearestOf s n p
   unfolding nearestOf
-  nearestOf-nothing l = ap (λ b. cond b (near.At i) near.Nothing) (sym (le-ltb i n l))
+  nearestOf-nothing l =
+      ap (λ b. cond b (near.At i) near.Nothing) (sym (le-ltb i n l))
       ∙ ap (λ i. cond (ltb i n) (near.At i) near.Nothing) (h .is)
 
 module _ (s : List ℤ) (p : Point) {v : Verdict} (h : v ≡ verdict s) where
   pub nearestBelow-accepted : {q : Point} {a : Nearest} → v ≡ Accepted → q ≡ p
       → a ≡ nearestOf s (recordCount s) q → a ≡ nearestBelow s p
   unfolding nearestBelow
-  nearestBelow-accepted e d f = f ∙ ap (nearestOf s (recordCount s)) d ∙ ap (λ v. nearestIf v (nearestOf s (recordCount s) p)) (sym e ∙ h)
+  nearestBelow-accepted e d f =
+      f ∙ ap (nearestOf s (recordCount s)) d ∙ ap (λ v. nearestIf v (nearestOf s (recordCount s) p)) (sym e ∙ h)
 
   pub nearestBelow-refused : {r : Refusal} → v ≡ Refused r → near.Refused r ≡ nearestBelow s p
   unfolding nearestBelow

@@ -3,10 +3,8 @@
 --     placed-accepted, placed-refused                  by the verdict
 -- Assumes nothing.
 use mathlib.Core.Path.{_≡_, sym, ap, _∙_}
-use mathlib.Core.Bool.{cond}
 use mathlib.Core.List.{List}
 use Prim.Native.Nat.{ℕ, _%_, _<_, _≤_}
-use lib.Dec.{eqb}
 use lib.IntN.{ℤ}
 use borrow.Author.Tests.{lt-ltb, le-ltb, eq-eqb, ne-eqb}
 use Rattle.counts.specs.Count.{odd}
@@ -22,7 +20,7 @@ use Rattle.chart.specs.declared.Verdict.the-variants.{Accepted, Refused}
 use Rattle.chart.specs.Verdicts.{verdict}
 use Rattle.question.specs.declared.Place.{Place}
 use Rattle.question.specs.declared.Place.the-variants as place
-use Rattle.question.specs.Places.{held, below, placeOf, placeIf, placed}
+use Rattle.question.specs.Places.{placeOf, placeIf, placed}
 
 module _ (s : List ℤ) (n : ℕ) (p : Point) {i : ℕ} (h : Found (ofSegment (holds p)) (recordAt s) 0 n i) where
   pub placeOf-edge : i < n → place.Edge ≡ placeOf (firstRecords s n) p
@@ -50,7 +48,9 @@ module _ (s : List ℤ) (p : Point) {v : Verdict} (h : v ≡ verdict s) where
   pub placed-accepted : {q : Point} {a : Place} → v ≡ Accepted → q ≡ p
       → a ≡ placeOf (firstRecords s (recordCount s)) q → a ≡ placed s p
   unfolding placed
-  placed-accepted e d f = f ∙ ap (placeOf (firstRecords s (recordCount s))) d ∙ ap (λ v. placeIf v (placeOf (firstRecords s (recordCount s)) p)) (sym e ∙ h)
+  placed-accepted e d f =
+      f ∙ ap (placeOf (firstRecords s (recordCount s))) d
+      ∙ ap (λ v. placeIf v (placeOf (firstRecords s (recordCount s)) p)) (sym e ∙ h)
 
   pub placed-refused : {r : Refusal} → v ≡ Refused r → place.Refused r ≡ placed s p
   unfolding placed

@@ -5,8 +5,9 @@
 --     higherBelow p t e     the segment of e is counted below p, and is higher there than t
 --     nearest rs p r        the segment of r is counted below p, and no other counted there is higher
 --     nearestOf s n p       the index of the first such record among n; Nothing where there is none
+--     placeIf v a, nearestIf v a      the answer a, or the refusal that v gives
 --     placed s p, nearestBelow s p    the same of an array of numbers: first its refusal, if it is no chart
---     placeNumber, placeRefusal       the paper's number of an answer, and its refusal: none (0 at 0) where it is one
+--     placeRefusal a, nearestRefusal a    the paper's number and index for each case: 0 and 0 where it is answered
 -- Assumes nothing.
 use mathlib.Core.Bool.{Bool, not, cond, _&&_}
 use mathlib.Core.List.{List}
@@ -21,9 +22,10 @@ use Rattle.plane.specs.Columns.{holds, belowPoint, higher}
 use Rattle.record.specs.declared.Record.{Record}
 use Rattle.record.specs.Records.{recordAt, recordCount, firstRecords, records}
 use Rattle.segment.specs.Segments.{segment, ofSegment}
+use Rattle.chart.specs.declared.Refusal.{Refusal}
 use Rattle.chart.specs.declared.Verdict.{Verdict}
 use Rattle.chart.specs.declared.Verdict.the-variants.{Accepted, Refused}
-use Rattle.chart.specs.Verdicts.{verdict}
+use Rattle.chart.specs.Verdicts.{noRefusal, verdict}
 use Rattle.question.specs.declared.Place.{Place}
 use Rattle.question.specs.declared.Place.the-variants as place
 use Rattle.question.specs.declared.Nearest.{Nearest}
@@ -44,6 +46,12 @@ abbrev pub placeIf : Verdict → Place → Place
 placeIf Accepted a = a
 placeIf (Refused r) a = place.Refused r
 
+abbrev pub placeRefusal : Place → Refusal
+placeRefusal place.Outside = noRefusal
+placeRefusal place.Inside = noRefusal
+placeRefusal place.Edge = noRefusal
+placeRefusal (place.Refused r) = r
+
 unfoldable pub placed : List ℤ → Point → Place
 placed s p = placeIf (verdict s) (placeOf (records s) p)
 
@@ -63,6 +71,11 @@ nearestOf s n p =
 abbrev pub nearestIf : Verdict → Nearest → Nearest
 nearestIf Accepted a = a
 nearestIf (Refused r) a = near.Refused r
+
+abbrev pub nearestRefusal : Nearest → Refusal
+nearestRefusal near.Nothing = noRefusal
+nearestRefusal (near.At i) = noRefusal
+nearestRefusal (near.Refused r) = r
 
 unfoldable pub nearestBelow : List ℤ → Point → Nearest
 nearestBelow s p = nearestIf (verdict s) (nearestOf s (recordCount s) p)

@@ -77,7 +77,7 @@ fn is_within(s: Segment, p: Point) -> bool
 pub fn is_on(p: Point, s: Segment) -> bool
     ensures { λ b. ⌜ b ≡ holds p s ⌝ }
 {
-    grid::is_same(s.a, p) | grid::is_same(s.b, p) | is_within(s, p)
+    is_end(p, s) | is_within(s, p)
 }
 
 // Whether t lies strictly below p, at the column of p.

@@ -1,7 +1,7 @@
 -- `first_not_after` meets its contract: the loop has seen each record after the one before, up to i. Assumes nothing.
 use Prim.Native.Nat.{_-_}
 use borrow.Author.Needs.{needs}
-use Rattle.counts.proofs.ScanLaws.{Seen, scanning}
+use Rattle.counts.proofs.LoopLaws.{Seen, scanning}
 use Rattle.chart.specs.Charts.{notAfter}
 use Rattle.chart.proofs.first_not_after.Statement.{statement}
 use Rattle.chart.proofs.first_not_after.Tie as tie

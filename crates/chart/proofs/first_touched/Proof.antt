@@ -1,7 +1,7 @@
 -- `first_touched` meets its contract: the loop has seen no segment that touches before i. Assumes nothing.
 use Prim.Native.Nat.{_-_}
 use borrow.Author.Needs.{needs}
-use Rattle.counts.proofs.ScanLaws.{Seen}
+use Rattle.counts.proofs.LoopLaws.{Seen}
 use Rattle.counts.proofs.ReadLaws.{reading}
 use Rattle.plane.specs.Touching.{touches}
 use Rattle.record.specs.Records.{recordAt}

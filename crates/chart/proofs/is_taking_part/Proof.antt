@@ -5,4 +5,6 @@ use Rattle.chart.proofs.is_taking_part.Statement.{statement}
 use Rattle.chart.proofs.is_taking_part.Tie as tie
 
 pub is-taking-part-spec : {M : Type 1} → statement M
-is-taking-part-spec = tie.close (tie.spec (λ c κs. search needs) (λ c κs. search needs) (λ c. search (needs, touching-found)))
+is-taking-part-spec =
+    tie.close
+    (tie.spec (λ c κs. search needs) (λ c κs. search needs) (λ c. search (needs, touching-found)))

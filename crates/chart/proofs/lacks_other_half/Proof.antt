@@ -5,4 +5,6 @@ use Rattle.chart.proofs.lacks_other_half.Statement.{statement}
 use Rattle.chart.proofs.lacks_other_half.Tie as tie
 
 pub lacks-other-half-spec : {M : Type 1} → statement M
-lacks-other-half-spec = tie.close (tie.spec (λ c κs. search needs) (λ c κs. search needs) (λ c. search (needs, noOtherHalf-found)))
+lacks-other-half-spec =
+    tie.close
+    (tie.spec (λ c κs. search needs) (λ c κs. search needs) (λ c. search (needs, noOtherHalf-found)))

@@ -1,7 +1,7 @@
 -- `first_elsewhere` meets its contract: the loop has seen only records at the corner from a up to i. Assumes nothing.
 use Prim.Native.Nat.{_-_}
 use borrow.Author.Needs.{needs}
-use Rattle.counts.proofs.ScanLaws.{Seen, scanning}
+use Rattle.counts.proofs.LoopLaws.{Seen, scanning}
 use Rattle.record.specs.Records.{recordAt}
 use Rattle.parts.specs.Parts.{offCorner}
 use Rattle.parts.proofs.first_elsewhere.Statement.{statement}

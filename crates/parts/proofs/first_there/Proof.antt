@@ -1,7 +1,7 @@
 -- `first_there` meets its contract: the loop has seen no record at the corner before i. Assumes nothing.
 use Prim.Native.Nat.{_-_}
 use borrow.Author.Needs.{needs}
-use Rattle.counts.proofs.ScanLaws.{Seen, scanning}
+use Rattle.counts.proofs.LoopLaws.{Seen, scanning}
 use Rattle.record.specs.Records.{recordAt}
 use Rattle.parts.specs.Parts.{atCorner}
 use Rattle.parts.proofs.first_there.Statement.{statement}

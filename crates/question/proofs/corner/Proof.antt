@@ -13,7 +13,8 @@ returns c =
     let judged = told .before .before in
     let start = judged .before .before in
     let args = start .args in
-    let place = pointOf-passed (args .x) (args .y) (start .fits .x) (start .fits .y) (judged .before .point-of .ensures) in
+    let point = judged .before .point-of .ensures in
+    let place = pointOf-passed (args .x) (args .y) (start .fits .x) (start .fits .y) point in
     rw (ap isAccepted (sym (judged .check .ensures) ∙ told .enum-told .given .1))
     (subst (λ p. Run (args .chart) p (c .run-at .result)) place (c .run-at .ensures))
 

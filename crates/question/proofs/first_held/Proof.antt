@@ -1,7 +1,7 @@
 -- `first_held` meets its contract: the loop has seen no segment that holds the point before i. Assumes nothing.
 use Prim.Native.Nat.{_-_}
 use borrow.Author.Needs.{needs}
-use Rattle.counts.proofs.ScanLaws.{Seen}
+use Rattle.counts.proofs.LoopLaws.{Seen}
 use Rattle.counts.proofs.ReadLaws.{reading}
 use Rattle.plane.specs.Columns.{holds}
 use Rattle.record.specs.Records.{recordAt}

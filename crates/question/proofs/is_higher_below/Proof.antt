@@ -9,4 +9,5 @@ ruleset all = (needs, higherBelow-counted, higherBelow-uncounted)
 pub is-higher-below-spec : {M : Type 1} → statement M
 is-higher-below-spec =
     tie.close
-    (tie.spec (λ c κs. search needs) (λ c κs. search needs) (λ c κs. search needs) (λ c. search all) (λ c. search all))
+    (tie.spec (λ c κs. search needs) (λ c κs. search needs) (λ c κs. search needs) (λ c. search all)
+    (λ c. search all))

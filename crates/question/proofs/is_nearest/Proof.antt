@@ -9,4 +9,5 @@ ruleset all = (needs, nearest-counted, nearest-uncounted)
 pub is-nearest-spec : {M : Type 1} → statement M
 is-nearest-spec =
     tie.close
-    (tie.spec (λ c κs. search needs) (λ c κs. search needs) (λ c κs. search needs) (λ c. search all) (λ c. search all))
+    (tie.spec (λ c κs. search needs) (λ c κs. search needs) (λ c κs. search needs) (λ c. search all)
+    (λ c. search all))

@@ -10,4 +10,5 @@ ruleset all = (needs, nearestBelow-accepted, nearestBelow-refused, pointOf-passe
 pub nearest-below-spec : {M : Type 1} → statement M
 nearest-below-spec =
     tie.close
-    (tie.spec (λ c κs. search needs) (λ c κs. search needs) (λ c. search needs) (λ c κs. search needs) (λ c. search needs) (λ c. search all) (λ c. search all))
+    (tie.spec (λ c κs. search needs) (λ c κs. search needs) (λ c. search needs) (λ c κs. search needs)
+    (λ c. search needs) (λ c. search all) (λ c. search all))

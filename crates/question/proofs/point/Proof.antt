@@ -10,4 +10,5 @@ ruleset all = (needs, placed-accepted, placed-refused, pointOf-passed)
 pub point-spec : {M : Type 1} → statement M
 point-spec =
     tie.close
-    (tie.spec (λ c κs. search needs) (λ c κs. search needs) (λ c. search needs) (λ c κs. search needs) (λ c. search needs) (λ c. search all) (λ c. search all))
+    (tie.spec (λ c κs. search needs) (λ c κs. search needs) (λ c. search needs) (λ c κs. search needs)
+    (λ c. search needs) (λ c. search all) (λ c. search all))

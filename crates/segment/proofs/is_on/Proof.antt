@@ -8,7 +8,7 @@ use Rattle.segment.proofs.is_on.Tie as tie
 
 returns : tie.Need-returns
 unfolding holds
-returns c = ap₂ _||_ (ap₂ _||_ (c .before .before .is-same .ensures) (c .before .is-same2 .ensures)) (c .is-within .ensures)
+returns c = ap₂ _||_ (c .before .is-end .ensures) (c .is-within .ensures)
 
 pub is-on-spec : {M : Type 1} → statement M
-is-on-spec = tie.close (tie.spec (λ c κs. search needs) (λ c κs. search needs) (λ c κs. search needs) returns)
+is-on-spec = tie.close (tie.spec (λ c κs. search needs) (λ c κs. search needs) returns)

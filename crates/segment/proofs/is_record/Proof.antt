@@ -8,7 +8,8 @@ use Rattle.segment.proofs.is_record.Tie as tie
 
 returns : tie.Need-returns
 unfolding isRecord
-returns c = ap₂ _&&_ (ap₂ _&&_ (c .before .before .is-same .ensures) (c .before .is-same2 .ensures)) (c .is-mark .ensures)
+returns c =
+    ap₂ _&&_ (ap₂ _&&_ (c .before .before .is-same .ensures) (c .before .is-same2 .ensures)) (c .is-mark .ensures)
 
 pub is-record-spec : {M : Type 1} → statement M
 is-record-spec = tie.close (tie.spec (λ c κs. search needs) (λ c κs. search needs) (λ c κs. search needs) returns)

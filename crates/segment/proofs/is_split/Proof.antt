@@ -13,4 +13,6 @@ returns c =
     (ap₂ _&&_ (c .before .turns-right2 .ensures) (c .turns-left2 .ensures))
 
 pub is-split-spec : {M : Type 1} → statement M
-is-split-spec = tie.close (tie.spec (λ c κs. search needs) (λ c κs. search needs) (λ c κs. search needs) (λ c κs. search needs) returns)
+is-split-spec =
+    tie.close
+    (tie.spec (λ c κs. search needs) (λ c κs. search needs) (λ c κs. search needs) (λ c κs. search needs) returns)

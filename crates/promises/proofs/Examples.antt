@@ -1,0 +1,63 @@
+-- Document 01's starred bench examples, proved against its rules: one statement, computed.
+--     Starred     what they say
+--     starred     they hold
+-- Assumes nothing.
+use mathlib.Core.Path.{_≡_, refl}
+use lib.IntN.{pos, negsuc}
+use Rattle.counts.specs.Count.{sum, any, firstIndex, listed}
+use Rattle.counts.specs.Scan.{firstFrom}
+use Rattle.plane.specs.Turns.{turnsLeft, turnsRight, straight}
+use Rattle.plane.specs.Touching.{within, splits, touches}
+use Rattle.plane.specs.Columns.{countedFor, belowPoint, holds, endsAt}
+use Rattle.grid.specs.Coordinates.{up, pointOf}
+use Rattle.record.specs.Records.{recordAt}
+use Rattle.record.specs.Order.{squareLength, leads, earlier, precedes}
+use Rattle.segment.specs.Segments.{segment, isRecord}
+use Rattle.chart.specs.declared.Verdict.the-variants.{Accepted}
+use Rattle.chart.specs.Verdicts.{refused, judged, verdict}
+use Rattle.area.specs.declared.Area.the-variants.{Twice}
+use Rattle.area.specs.Areas.{total, share, areaOf}
+use Rattle.question.specs.declared.Place.the-variants.{Inside, Edge, Outside}
+use Rattle.question.specs.Places.{placeOf, placed}
+use Rattle.promises.specs.Bench.{square, lastMarkZero, bottomMarkedZero, squareWithHole, largeTriangle}
+
+pub record Starred : Type 0 where
+  pub square-accepted : verdict square ≡ Accepted
+  pub square-inside : placed square (pointOf (pos 2) (pos 2)) ≡ Inside
+  pub square-edge : placed square (pointOf (pos 4) (pos 2)) ≡ Edge
+  pub square-outside : placed square (pointOf (pos 5) (pos 2)) ≡ Outside
+  pub square-area : areaOf square ≡ Twice (pos 32)
+  pub last-mark-zero : verdict lastMarkZero ≡ refused 6 5
+  pub bottom-marked-zero : verdict bottomMarkedZero ≡ refused 9 0
+  pub hole-accepted : verdict squareWithHole ≡ Accepted
+  pub hole-outside : placed squareWithHole (pointOf (pos 1) (pos 1)) ≡ Outside
+  pub hole-inside : placed squareWithHole (pointOf (pos 3) (pos 3)) ≡ Inside
+  pub hole-area : areaOf squareWithHole ≡ Twice (pos 29)
+  pub triangle-accepted : verdict largeTriangle ≡ Accepted
+  pub triangle-inside : placed largeTriangle (pointOf (negsuc 0) (negsuc 0)) ≡ Inside
+  pub triangle-edge : placed largeTriangle (pointOf (pos 0) (negsuc 0)) ≡ Edge
+  pub triangle-outside : placed largeTriangle (pointOf (pos 0) (pos 0)) ≡ Outside
+  pub triangle-area : areaOf largeTriangle ≡ Twice (pos 4294836225)
+
+pub starred : Starred
+unfolding sum any firstIndex listed firstFrom up recordAt precedes earlier leads squareLength segment isRecord
+    touches splits within turnsLeft turnsRight straight countedFor endsAt belowPoint holds
+    verdict judged placeOf placed total share areaOf
+starred = record {
+  square-accepted = refl;
+  square-inside = refl;
+  square-edge = refl;
+  square-outside = refl;
+  square-area = refl;
+  last-mark-zero = refl;
+  bottom-marked-zero = refl;
+  hole-accepted = refl;
+  hole-outside = refl;
+  hole-inside = refl;
+  hole-area = refl;
+  triangle-accepted = refl;
+  triangle-inside = refl;
+  triangle-edge = refl;
+  triangle-outside = refl;
+  triangle-area = refl;
+}

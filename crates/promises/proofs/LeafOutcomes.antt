@@ -1,0 +1,164 @@
+-- The public functions that the questions rest on: any two outcomes that one promise allows coincide.
+-- Assumes nothing.
+use mathlib.Core.Path.{sym, _∙_}
+use mathlib.Core.Bool.{Bool}
+use Prim.Native.Nat.{ℕ}
+use lib.IntN.{ℤ}
+use Rattle.plane.specs.declared.Point.{Point}
+use Rattle.plane.specs.declared.Segment.{Segment}
+use Rattle.grid.specs.declared.Coord.{Coord}
+use Rattle.grid.specs.declared.Located.{Located}
+use Rattle.grid.specs.declared.Turn.{Turn}
+use Rattle.record.specs.declared.Record.{Record}
+use Rattle.grid.proofs.Coord.new.Kinds as new-kinds
+use Rattle.grid.proofs.Coord.new.Reads as new
+use Rattle.grid.proofs.Coord.least.Kinds as least-kinds
+use Rattle.grid.proofs.Coord.least.Reads as least
+use Rattle.grid.proofs.Coord.greatest.Kinds as greatest-kinds
+use Rattle.grid.proofs.Coord.greatest.Reads as greatest
+use Rattle.grid.proofs.Coord.of_wide.Kinds as of-wide-kinds
+use Rattle.grid.proofs.Coord.of_wide.Reads as of-wide
+use Rattle.grid.proofs.Coord.count.Kinds as count-kinds
+use Rattle.grid.proofs.Coord.count.Reads as count
+use Rattle.grid.proofs.Coord.at_count.Kinds as at-count-kinds
+use Rattle.grid.proofs.Coord.at_count.Reads as at-count
+use Rattle.grid.proofs.count_of.Kinds as count-of-kinds
+use Rattle.grid.proofs.count_of.Reads as count-of
+use Rattle.grid.proofs.number_at.Kinds as number-at-kinds
+use Rattle.grid.proofs.number_at.Reads as number-at
+use Rattle.grid.proofs.point_of.Kinds as point-of-kinds
+use Rattle.grid.proofs.point_of.Reads as point-of
+use Rattle.grid.proofs.is_before.Kinds as is-before-kinds
+use Rattle.grid.proofs.is_before.Reads as is-before
+use Rattle.grid.proofs.is_same.Kinds as is-same-kinds
+use Rattle.grid.proofs.is_same.Reads as is-same
+use Rattle.grid.proofs.product.Kinds as product-kinds
+use Rattle.grid.proofs.product.Reads as product
+use Rattle.grid.proofs.turn_of.Kinds as turn-of-kinds
+use Rattle.grid.proofs.turn_of.Reads as turn-of
+use Rattle.grid.proofs.turns_left.Kinds as turns-left-kinds
+use Rattle.grid.proofs.turns_left.Reads as turns-left
+use Rattle.grid.proofs.turns_right.Kinds as turns-right-kinds
+use Rattle.grid.proofs.turns_right.Reads as turns-right
+use Rattle.grid.proofs.is_straight.Kinds as is-straight-kinds
+use Rattle.grid.proofs.is_straight.Reads as is-straight
+use Rattle.record.proofs.record_at.Kinds as record-at-kinds
+use Rattle.record.proofs.record_at.Reads as record-at
+use Rattle.record.proofs.is_left.Kinds as is-left-kinds
+use Rattle.record.proofs.is_left.Reads as is-left
+use Rattle.record.proofs.other_half.Kinds as other-half-kinds
+use Rattle.record.proofs.other_half.Reads as other-half
+use Rattle.record.proofs.order.is_earlier.Kinds as is-earlier-kinds
+use Rattle.record.proofs.order.is_earlier.Reads as is-earlier
+use Rattle.segment.proofs.segment_of.Kinds as segment-of-kinds
+use Rattle.segment.proofs.segment_of.Reads as segment-of
+use Rattle.segment.proofs.is_record.Kinds as is-record-kinds
+use Rattle.segment.proofs.is_record.Reads as is-record
+use Rattle.segment.proofs.is_vertical.Kinds as is-vertical-kinds
+use Rattle.segment.proofs.is_vertical.Reads as is-vertical
+use Rattle.segment.proofs.is_end.Kinds as is-end-kinds
+use Rattle.segment.proofs.is_end.Reads as is-end
+use Rattle.segment.proofs.is_on.Kinds as is-on-kinds
+use Rattle.segment.proofs.is_on.Reads as is-on
+use Rattle.segment.proofs.is_below_point.Kinds as is-below-point-kinds
+use Rattle.segment.proofs.is_below_point.Reads as is-below-point
+use Rattle.segment.proofs.is_touching.Kinds as is-touching-kinds
+use Rattle.segment.proofs.is_touching.Reads as is-touching
+use Rattle.segment.proofs.is_counted_for.Kinds as is-counted-for-kinds
+use Rattle.segment.proofs.is_counted_for.Reads as is-counted-for
+use Rattle.segment.proofs.is_higher.Kinds as is-higher-kinds
+use Rattle.segment.proofs.is_higher.Reads as is-higher
+use Rattle.promises.proofs.Settled.{Settled}
+
+-- ---- grid
+
+pub same-new : Settled 0 new-kinds.ps new-kinds.r Coord new.Post
+same-new κs a v w s t h k = h ∙ sym k
+
+pub same-least : Settled 0 least-kinds.ps least-kinds.r Coord least.Post
+same-least κs a v w s t h k = h ∙ sym k
+
+pub same-greatest : Settled 0 greatest-kinds.ps greatest-kinds.r Coord greatest.Post
+same-greatest κs a v w s t h k = h ∙ sym k
+
+pub same-of-wide : Settled 0 of-wide-kinds.ps of-wide-kinds.r Located of-wide.Post
+same-of-wide κs a v w s t h k = h ∙ sym k
+
+pub same-count : Settled 0 count-kinds.ps count-kinds.r ℕ count.Post
+same-count κs a v w s t h k = h ∙ sym k
+
+pub same-at-count : Settled 0 at-count-kinds.ps at-count-kinds.r Coord at-count.Post
+same-at-count κs a v w s t h k = h ∙ sym k
+
+pub same-count-of : Settled 0 count-of-kinds.ps count-of-kinds.r ℕ count-of.Post
+same-count-of κs a v w s t h k = h ∙ sym k
+
+pub same-number-at : Settled 0 number-at-kinds.ps number-at-kinds.r ℤ number-at.Post
+same-number-at κs a v w s t h k = h ∙ sym k
+
+pub same-point-of : Settled 0 point-of-kinds.ps point-of-kinds.r Point point-of.Post
+same-point-of κs a v w s t h k = h ∙ sym k
+
+pub same-is-before : Settled 0 is-before-kinds.ps is-before-kinds.r Bool is-before.Post
+same-is-before κs a v w s t h k = h ∙ sym k
+
+pub same-is-same : Settled 0 is-same-kinds.ps is-same-kinds.r Bool is-same.Post
+same-is-same κs a v w s t h k = h ∙ sym k
+
+pub same-product : Settled 0 product-kinds.ps product-kinds.r ℕ product.Post
+same-product κs a v w s t h k = h .is ∙ sym (k .is)
+
+pub same-turn-of : Settled 0 turn-of-kinds.ps turn-of-kinds.r Turn turn-of.Post
+same-turn-of κs a v w s t h k = h ∙ sym k
+
+pub same-turns-left : Settled 0 turns-left-kinds.ps turns-left-kinds.r Bool turns-left.Post
+same-turns-left κs a v w s t h k = h ∙ sym k
+
+pub same-turns-right : Settled 0 turns-right-kinds.ps turns-right-kinds.r Bool turns-right.Post
+same-turns-right κs a v w s t h k = h ∙ sym k
+
+pub same-is-straight : Settled 0 is-straight-kinds.ps is-straight-kinds.r Bool is-straight.Post
+same-is-straight κs a v w s t h k = h ∙ sym k
+
+-- ---- record
+
+pub same-record-at : Settled 1 record-at-kinds.ps record-at-kinds.r Record record-at.Post
+same-record-at κs a v w s t h k = h ∙ sym k
+
+pub same-is-left : Settled 0 is-left-kinds.ps is-left-kinds.r Bool is-left.Post
+same-is-left κs a v w s t h k = h ∙ sym k
+
+pub same-other-half : Settled 0 other-half-kinds.ps other-half-kinds.r Record other-half.Post
+same-other-half κs a v w s t h k = h ∙ sym k
+
+pub same-is-earlier : Settled 0 is-earlier-kinds.ps is-earlier-kinds.r Bool is-earlier.Post
+same-is-earlier κs a v w s t h k = h ∙ sym k
+
+-- ---- segment
+
+pub same-segment-of : Settled 0 segment-of-kinds.ps segment-of-kinds.r Segment segment-of.Post
+same-segment-of κs a v w s t h k = h ∙ sym k
+
+pub same-is-record : Settled 0 is-record-kinds.ps is-record-kinds.r Bool is-record.Post
+same-is-record κs a v w s t h k = h ∙ sym k
+
+pub same-is-vertical : Settled 0 is-vertical-kinds.ps is-vertical-kinds.r Bool is-vertical.Post
+same-is-vertical κs a v w s t h k = h ∙ sym k
+
+pub same-is-end : Settled 0 is-end-kinds.ps is-end-kinds.r Bool is-end.Post
+same-is-end κs a v w s t h k = h ∙ sym k
+
+pub same-is-on : Settled 0 is-on-kinds.ps is-on-kinds.r Bool is-on.Post
+same-is-on κs a v w s t h k = h ∙ sym k
+
+pub same-is-below-point : Settled 0 is-below-point-kinds.ps is-below-point-kinds.r Bool is-below-point.Post
+same-is-below-point κs a v w s t h k = h ∙ sym k
+
+pub same-is-touching : Settled 0 is-touching-kinds.ps is-touching-kinds.r Bool is-touching.Post
+same-is-touching κs a v w s t h k = h ∙ sym k
+
+pub same-is-counted-for : Settled 0 is-counted-for-kinds.ps is-counted-for-kinds.r Bool is-counted-for.Post
+same-is-counted-for κs a v w s t h k = h ∙ sym k
+
+pub same-is-higher : Settled 0 is-higher-kinds.ps is-higher-kinds.r Bool is-higher.Post
+same-is-higher κs a v w s t h k = h ∙ sym k

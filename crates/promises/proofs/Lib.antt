@@ -1,0 +1,5 @@
+pub mod Settled
+pub mod Promises
+pub mod Outcomes
+pub mod LeafOutcomes
+pub mod Examples

@@ -1,0 +1,62 @@
+-- Any two outcomes that one promise allows coincide, for each question. None writes into a lent array, so the answer is
+-- all that is to be settled.
+--     same-check, same-point, same-nearest-below, same-area2    the answer
+--     same-corner, same-run-at, same-smaller-head               the part: its numbers, the array it lies in, its place
+-- Assumes nothing.
+use mathlib.Core.Path.{sym, _∙_}
+use mathlib.Core.List.{List}
+use Prim.Native.Nat.{ℕ}
+use denote.Ref.{RefT}
+use lib.IntN.{ℤ}
+use Rattle.chart.specs.declared.Verdict.{Verdict}
+use Rattle.question.specs.declared.Place.{Place}
+use Rattle.question.specs.declared.Nearest.{Nearest}
+use Rattle.area.specs.declared.Area.{Area}
+use Rattle.parts.specs.Parts.{Part}
+use Rattle.chart.proofs.check.Kinds as check-kinds
+use Rattle.chart.proofs.check.Reads as check
+use Rattle.question.proofs.point.Kinds as point-kinds
+use Rattle.question.proofs.point.Reads as point
+use Rattle.question.proofs.nearest_below.Kinds as nearest-below-kinds
+use Rattle.question.proofs.nearest_below.Reads as nearest-below
+use Rattle.area.proofs.area2.Kinds as area2-kinds
+use Rattle.area.proofs.area2.Reads as area2
+use Rattle.question.proofs.corner.Kinds as corner-kinds
+use Rattle.question.proofs.corner.Reads as corner
+use Rattle.parts.proofs.run_at.Kinds as run-at-kinds
+use Rattle.parts.proofs.run_at.Reads as run-at
+use Rattle.parts.proofs.smaller_head.Kinds as smaller-head-kinds
+use Rattle.parts.proofs.smaller_head.Reads as smaller-head
+use Rattle.promises.proofs.Settled.{Settled, SamePart, SettledPart}
+
+-- ---- chart
+
+pub same-check : Settled 1 check-kinds.ps check-kinds.r Verdict check.Post
+same-check κs a v w s t h k = h ∙ sym k
+
+-- ---- question
+
+pub same-point : Settled 1 point-kinds.ps point-kinds.r Place point.Post
+same-point κs a v w s t h k = h ∙ sym k
+
+pub same-nearest-below : Settled 1 nearest-below-kinds.ps nearest-below-kinds.r Nearest nearest-below.Post
+same-nearest-below κs a v w s t h k = h ∙ sym k
+
+-- ---- area
+
+pub same-area2 : Settled 1 area2-kinds.ps area2-kinds.r Area area2.Post
+same-area2 κs a v w s t h k = h ∙ sym k
+
+-- ---- parts of an array
+
+same-part : {s : RefT (List ℤ)} {a e : ℕ} (p q : RefT (List ℤ)) → Part s a e p → Part s a e q → SamePart p q
+same-part p q h k = (h .numbers ∙ sym (k .numbers), h .array ∙ sym (k .array), h .place ∙ sym (k .place))
+
+pub same-corner : SettledPart 1 corner-kinds.ps corner-kinds.r corner.Post
+same-corner κs a p q s t h k = same-part p q h k
+
+pub same-run-at : SettledPart 1 run-at-kinds.ps run-at-kinds.r run-at.Post
+same-run-at κs a p q s t h k = same-part p q h k
+
+pub same-smaller-head : SettledPart 1 smaller-head-kinds.ps smaller-head-kinds.r smaller-head.Post
+same-smaller-head κs a p q s t h k = same-part p q h k

@@ -1,0 +1,27 @@
+#!/usr/bin/env bash
+# Every public function of a library has, in the crate promises, a theorem that any two of its outcomes coincide:
+# pub fn NAME has same-NAME. And no public function asks anything of its caller, but for record_at.
+set -u
+cd "$(dirname "$0")/.." || exit 2
+passed=0 failed=0
+note() {
+    if [ "$1" = 0 ]; then passed=$((passed + 1)); else failed=$((failed + 1)); echo "$2"; fi
+}
+
+for source in crates/*/src/*.rt; do
+    [ "$(basename "$source")" = main.rt ] && continue
+    while read -r name; do
+        law="same-${name//_/-}"
+        grep -qE "^pub $law :" crates/promises/proofs/*.antt
+        note $? "$source: no theorem $law for the public function $name"
+        [ "$name" = record_at ] && continue
+        ! awk -v name="$name" '
+            $0 ~ "pub fn " name "[<(]" { on = 1 }
+            on && /requires/ { bad = 1 }
+            on && /^ *\{/ { on = 0 }
+            END { exit !bad }' "$source"
+        note $? "$source: the public function $name has a requires"
+    done < <(sed -nE 's/^ *pub fn ([a-z_0-9]+).*/\1/p' "$source")
+done
+echo "$passed passed, $failed failed"
+[ "$failed" = 0 ]
