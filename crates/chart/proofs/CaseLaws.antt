@@ -1,4 +1,4 @@
--- Rows of the check as a program finds them (specs/Charts.antt): from what its loops answer over the first n records.
+-- Rows of the check as a program finds them (specs/Rows.antt): from what its loops answer over the first n records.
 --     first-there, first-past            whether the first place that a loop found is one of n
 --     notAfter-first, notAfter-later     row 5 at the first record, which comes after none, and at a later one
 --     noOtherHalf-found                  row 6, by the first place of the other half
@@ -27,7 +27,7 @@ use Rattle.record.specs.declared.Record.{Record}
 use Rattle.record.specs.Records.{recordAt, firstRecords, unmarked, marked}
 use Rattle.record.specs.Order.{otherHalf, precedes}
 use Rattle.segment.specs.Segments.{segment, ofSegment, isRecord}
-use Rattle.chart.specs.Charts.{notAfter, noOtherHalf, touching, oddEnd, countedMark, wrongMark}
+use Rattle.chart.specs.Rows.{notAfter, noOtherHalf, touching, oddEnd, countedMark, wrongMark}
 
 pub first-there : {r i n : ℕ} → r ≡ i → r < n → ltb i n ≡ true
 first-there {r} {i} {n} e l = lt-ltb i n (omega arith)

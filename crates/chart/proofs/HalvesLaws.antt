@@ -1,4 +1,4 @@
--- Rows 7 and 8 of document 01's refusal table (specs/Charts.antt), where rows 3 and 6 find nothing: each record's ends
+-- Rows 7 and 8 of document 01's refusal table (specs/Rows.antt), where rows 3 and 6 find nothing: each record's ends
 -- differ, and its other half is there.
 --     left-half        each segment has its left half
 --     touching-off     row 7 finds nothing exactly if no two distinct segments touch
@@ -25,7 +25,7 @@ use Rattle.record.specs.Order.{left, otherHalf, Proper}
 use Rattle.record.proofs.HalfLaws.{left-otherHalf}
 use Rattle.segment.specs.Segments.{segment, ofSegment}
 use Rattle.segment.proofs.SegmentLaws.{segment-left, segment-forward, segment-otherHalf}
-use Rattle.chart.specs.Charts.{touching, endCount, oddEnd}
+use Rattle.chart.specs.Rows.{touching, endCount, oddEnd}
 
 module _ (rs : List Record) (proper : (r : Record) → r ∈ rs → Proper r)
     (halves : (r : Record) → r ∈ rs → otherHalf r ∈ rs) where

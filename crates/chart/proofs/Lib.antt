@@ -1,5 +1,5 @@
 pub mod CaseLaws
-pub mod ChartLaws
+pub mod RowLaws
 pub mod HalvesLaws
 pub mod VerdictLaws
 pub mod RegionLaws

@@ -22,9 +22,9 @@ use Rattle.record.specs.Order.{left, Proper, precedes}
 use Rattle.record.proofs.OrderLaws.{precedes-irrefl, precedes-trans}
 use Rattle.segment.specs.Segments.{segment, isRecord}
 use Rattle.segment.proofs.SegmentLaws.{segment-left, segment-right, isRecord-true, isRecord-refl}
-use Rattle.chart.specs.Charts.{countedMark}
+use Rattle.chart.specs.Rows.{countedMark}
 use Rattle.chart.specs.Regions.{Sound, Region}
-use Rattle.chart.proofs.ChartLaws.{equalEnds-off}
+use Rattle.chart.proofs.RowLaws.{equalEnds-off}
 
 module _ {rs : List Record} (sound : Sound rs) where
   pub sound-proper : (r : Record) → r ∈ rs → Proper r

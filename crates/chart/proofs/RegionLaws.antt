@@ -12,7 +12,7 @@ use Rattle.record.specs.Order.{otherHalf, Proper}
 use Rattle.chart.specs.declared.Verdict.the-variants.{Accepted}
 use Rattle.chart.specs.Verdicts.{verdict}
 use Rattle.chart.specs.Regions.{Sound, Region}
-use Rattle.chart.proofs.ChartLaws.{equalEnds-off, badMark-off, notAfter-off, noOtherHalf-off, wrongMark-off}
+use Rattle.chart.proofs.RowLaws.{equalEnds-off, badMark-off, notAfter-off, noOtherHalf-off, wrongMark-off}
 use Rattle.chart.proofs.HalvesLaws.{touching-off, oddEnd-off}
 use Rattle.chart.proofs.VerdictLaws.{Faultless, verdict-accepted}
 

@@ -20,7 +20,7 @@ use Rattle.record.specs.declared.Record.{Record}
 use Rattle.record.specs.Records.{width, recordAt, recordCount, records}
 use Rattle.chart.specs.declared.Verdict.{Verdict}
 use Rattle.chart.specs.declared.Verdict.the-variants.{Accepted}
-use Rattle.chart.specs.Charts.{equalEnds, badMark, notAfter, noOtherHalf, touching, oddEnd, wrongMark}
+use Rattle.chart.specs.Rows.{equalEnds, badMark, notAfter, noOtherHalf, touching, oddEnd, wrongMark}
 use Rattle.chart.specs.Verdicts.{limit, refused, judged, verdict, isAccepted}
 
 pub record Faultless (s : List ℤ) : Type 0 where

@@ -1,3 +1,3 @@
-pub mod Charts
+pub mod Rows
 pub mod Verdicts
 pub mod Regions

@@ -5,12 +5,12 @@
 --     noRefusal          0, with index 0
 --     refusalOf v        the paper's number and index for each case: 0 and 0 where the chart is accepted
 --     firstly k i n v    refusal k at i where i is one of n records; v where there is none
---     judged s n         of the first n records: 3 to 9, the first record at fault of each kind (specs/Charts.antt),
+--     judged s n         of the first n records: 3 to 9, the first record at fault of each kind (specs/Rows.antt),
 --                        kind after kind; a first place that is n means none
 --     verdict s          1  length is no multiple of five
 --                        2  more than 512 records
 --                        else as its records are judged
---     accepted s         the verdict refuses nothing
+--     isAccepted v, accepted s    the verdict refuses nothing
 -- Assumes nothing.
 use mathlib.Core.Bool.{Bool, true, false, not, cond}
 use mathlib.Core.List.{List}
@@ -24,7 +24,7 @@ use Rattle.record.specs.Records.{width, recordAt, recordCount, firstRecords}
 use Rattle.chart.specs.declared.Refusal.{Refusal}
 use Rattle.chart.specs.declared.Verdict.{Verdict}
 use Rattle.chart.specs.declared.Verdict.the-variants.{Accepted, Refused}
-use Rattle.chart.specs.Charts.{equalEnds, badMark, notAfter, noOtherHalf, touching, oddEnd, wrongMark}
+use Rattle.chart.specs.Rows.{equalEnds, badMark, notAfter, noOtherHalf, touching, oddEnd, wrongMark}
 
 abbrev pub limit : ℕ
 limit = 512

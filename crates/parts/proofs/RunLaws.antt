@@ -16,6 +16,7 @@ use borrow.Author.Tests.{not-true, not-false}
 use Rattle.counts.specs.Scan.{firstFrom}
 use Rattle.counts.proofs.TestLaws.{is-false, lt-or-le}
 use Rattle.counts.proofs.ScanLaws.{firstFrom-low, firstFrom-high, firstFrom-passes, firstFrom-fails}
+use Rattle.counts.proofs.ScanLaws.{firstFrom-least}
 use Rattle.plane.specs.declared.Point.{Point}
 use Rattle.plane.specs.Points.{before, same}
 use Rattle.plane.proofs.PointLaws.{before-irrefl, before-once, trichotomy, not-before-trans}
@@ -68,13 +69,7 @@ module _ (s : List ℤ) where
     there-in-run o i short there = (starts, ends (lt-or-le i past))
       where
         starts : firstThere s p ≤ i
-        starts = go (lt-or-le i (firstThere s p))
-          where
-            go : (i < firstThere s p) ⊎ (firstThere s p ≤ i) → firstThere s p ≤ i
-            go (inl l) =
-                absurd (true≢false (sym there
-                ∙ firstFrom-fails (atCorner p) (recordAt s) 0 (recordCount s) zero-le i zero-le l))
-            go (inr l) = l
+        starts = firstFrom-least (atCorner p) (recordAt s) 0 (recordCount s) zero-le i zero-le there
 
         -- between two records at p, in order, all are at p
         between : (j : ℕ) → firstThere s p ≤ j → j ≤ i → atCorner p (recordAt s j) ≡ true

@@ -4,7 +4,7 @@ use borrow.Author.Needs.{needs}
 use Rattle.counts.proofs.LoopLaws.{Seen}
 use Rattle.counts.proofs.ReadLaws.{reading}
 use Rattle.record.specs.Records.{recordAt}
-use Rattle.chart.specs.Charts.{badMark}
+use Rattle.chart.specs.Rows.{badMark}
 use Rattle.chart.proofs.first_bad_mark.Statement.{statement}
 use Rattle.chart.proofs.first_bad_mark.Tie as tie
 

@@ -4,7 +4,7 @@ use borrow.Author.Needs.{needs}
 use Rattle.counts.proofs.LoopLaws.{Seen}
 use Rattle.counts.proofs.ReadLaws.{reading}
 use Rattle.record.specs.Records.{recordAt}
-use Rattle.chart.specs.Charts.{equalEnds}
+use Rattle.chart.specs.Rows.{equalEnds}
 use Rattle.chart.proofs.first_equal_ends.Statement.{statement}
 use Rattle.chart.proofs.first_equal_ends.Tie as tie
 

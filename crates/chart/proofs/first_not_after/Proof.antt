@@ -2,7 +2,7 @@
 use Prim.Native.Nat.{_-_}
 use borrow.Author.Needs.{needs}
 use Rattle.counts.proofs.LoopLaws.{Seen, scanning}
-use Rattle.chart.specs.Charts.{notAfter}
+use Rattle.chart.specs.Rows.{notAfter}
 use Rattle.chart.proofs.first_not_after.Statement.{statement}
 use Rattle.chart.proofs.first_not_after.Tie as tie
 

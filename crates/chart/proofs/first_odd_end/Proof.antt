@@ -4,7 +4,7 @@ use borrow.Author.Needs.{needs}
 use Rattle.counts.proofs.LoopLaws.{Seen}
 use Rattle.counts.proofs.ReadLaws.{reading}
 use Rattle.record.specs.Records.{recordAt, firstRecords}
-use Rattle.chart.specs.Charts.{oddEnd}
+use Rattle.chart.specs.Rows.{oddEnd}
 use Rattle.chart.proofs.first_odd_end.Statement.{statement}
 use Rattle.chart.proofs.first_odd_end.Tie as tie
 

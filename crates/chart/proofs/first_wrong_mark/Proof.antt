@@ -4,7 +4,7 @@ use borrow.Author.Needs.{needs}
 use Rattle.counts.proofs.LoopLaws.{Seen}
 use Rattle.counts.proofs.ReadLaws.{reading}
 use Rattle.record.specs.Records.{recordAt, firstRecords}
-use Rattle.chart.specs.Charts.{wrongMark}
+use Rattle.chart.specs.Rows.{wrongMark}
 use Rattle.chart.proofs.first_wrong_mark.Statement.{statement}
 use Rattle.chart.proofs.first_wrong_mark.Tie as tie
 

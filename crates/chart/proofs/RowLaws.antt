@@ -1,4 +1,4 @@
--- What it means that a row of document 01's refusal table finds nothing: the tests of specs/Charts.antt, both ways.
+-- What it means that a row of document 01's refusal table finds nothing: the tests of specs/Rows.antt, both ways.
 --     equalEnds-off, badMark-off      rows 3 and 4, of a record
 --     notAfter-off                    row 5, of all places of an array
 --     noOtherHalf-off                 row 6, of a record
@@ -23,7 +23,7 @@ use Rattle.record.specs.Records.{recordAt, recordCount, unmarked, marked}
 use Rattle.record.specs.Order.{otherHalf, precedes}
 use Rattle.segment.specs.Segments.{segment, isRecord}
 use Rattle.segment.proofs.SegmentLaws.{isRecord-true, isRecord-refl}
-use Rattle.chart.specs.Charts.{equalEnds, badMark, notAfter, noOtherHalf, countedMark, wrongMark}
+use Rattle.chart.specs.Rows.{equalEnds, badMark, notAfter, noOtherHalf, countedMark, wrongMark}
 
 pub equalEnds-off : (r : Record) → (equalEnds r ≡ false) ↔ (r .dom ≡ r .other → ⊥)
 equalEnds-off r = (
