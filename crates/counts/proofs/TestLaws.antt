@@ -4,9 +4,10 @@
 --     and-comm, is-false, same-test, xor-back, xor-self    of Booleans
 --     lt-or-le, Side, side                  of two numbers, by cases
 --     leb-not, eqb-swap                     of tests on two numbers
+--     or-is, and-is, ltb-is, leb-is, eqb-is, not-ltb-is    a test, or two joined, and what it tests, both ways
 -- Assumes nothing.
 use mathlib.Core.Path.{_≡_, refl, sym, ap, ap₂, _∙_}
-use mathlib.Core.Logic.{_⊎_, inl, inr, ⊎-elim}
+use mathlib.Core.Logic.{_⊎_, inl, inr, _↔_, ⊎-elim}
 use mathlib.Core.Bool.{Bool, true, false, not, _&&_, _||_, true≢false}
 use Prim.Native.Nat.{ℕ, _<_, _≤_}
 use native.Mathlib.Decide.{decLt}
@@ -97,3 +98,30 @@ leb-not m n =
 pub eqb-swap : (m n : ℕ) → eqb m n ≡ eqb n m
 eqb-swap m n =
     same-test (eqb m n) (eqb n m) (λ e. eq-eqb n m (sym (eqb-true m n e))) (λ e. eq-eqb m n (sym (eqb-true n m e)))
+
+-- ---- tests and what they test, both ways
+
+pub or-is : {A B : Type 0} (p q : Bool) → (p ≡ true) ↔ A → (q ≡ true) ↔ B → (p || q ≡ true) ↔ (A ⊎ B)
+or-is p q h g = (
+  λ e. ⊎-elim (λ l. inl (h .0 l)) (λ r. inr (g .0 r)) (or-true p q e),
+  ⊎-elim (λ l. or-left q (h .1 l)) (λ r. or-right p (g .1 r)),
+)
+
+-- the second test matters only where the first has passed
+pub and-is : {A B : Type 0} (p q : Bool) → (p ≡ true) ↔ A → (A → (q ≡ true) ↔ B) → (p && q ≡ true) ↔ (A × B)
+and-is p q h g = (
+  λ e. let w = and-true p q e in let l = h .0 (w .0) in (l, g l .0 (w .1)),
+  λ w. and-intro (h .1 (w .0)) (g (w .0) .1 (w .1)),
+)
+
+pub ltb-is : {b : Bool} {m n : ℕ} → b ≡ ltb m n → (b ≡ true) ↔ (m < n)
+ltb-is e = (λ h. ltb-true _ _ (sym e ∙ h), λ h. e ∙ lt-ltb _ _ h)
+
+pub leb-is : {b : Bool} {m n : ℕ} → b ≡ leb m n → (b ≡ true) ↔ (m ≤ n)
+leb-is e = (λ h. leb-true _ _ (sym e ∙ h), λ h. e ∙ le-leb _ _ h)
+
+pub eqb-is : {b : Bool} {m n : ℕ} → b ≡ eqb m n → (b ≡ true) ↔ (m ≡ n)
+eqb-is e = (λ h. eqb-true _ _ (sym e ∙ h), λ h. e ∙ eq-eqb _ _ h)
+
+pub not-ltb-is : {b : Bool} {m n : ℕ} → b ≡ ltb n m → (not b ≡ true) ↔ (m ≤ n)
+not-ltb-is {b} {m} {n} e = leb-is (ap not e ∙ sym (leb-not m n))

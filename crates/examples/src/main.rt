@@ -12,6 +12,7 @@ fn main() {
     about_hole(&square_with_hole());
     about_triangle(&large_triangle());
     about_lengths(&row());
+    about_zeros(&[0i16; 200000]);
     first_faults();
     two_faults();
     two_kinds();
@@ -497,6 +498,13 @@ fn say_lengths(text: &[u8], s: &[i16], n: usize) {
         say_nearest(b"nearest below (253,9) in it", part, 253, 9);
         say_corner(b"its run at (252,0)", part, 252, 0);
     }
+}
+
+// An array far past the limit is turned away before a record of it is looked at.
+fn about_zeros(s: &[i16]) {
+    say_lengths(b"200,000 numbers", s, 200000);
+    say_lengths(b"one less", s, 199999);
+    say_lengths(b"five zeros", s, 5);
 }
 
 // ---- each refusal, at the first record at fault

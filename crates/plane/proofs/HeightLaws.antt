@@ -1,5 +1,9 @@
--- Laws of `height`: at the ends of a segment, what equal or exchanged heights of two segments mean, and where a point
--- lies.
+-- Laws of `height`: along a segment and at its ends, what equal or exchanged heights of two segments mean, and where a
+-- point lies.
+--     balance-ltb               two differences of which one is a multiple of the other have one sign
+--     turn-across               a turn from how far across two points lie from the first
+--     height-straight           the height between two half columns is their mean, by how far it is to each
+--     height-rise               the height at a column, times the breadth, is the rise
 --     height-a, height-b        at its own ends a segment is as high as they are
 --     touch-level, touch-cross  level inside one of them, or in the other order at another column: they touch
 --     touch-upright             a vertical segment across the inside of another touches it
@@ -19,6 +23,7 @@ use Rattle.plane.specs.declared.Segment.{Segment}
 use Rattle.plane.specs.Turns.{plus, minus, turnsLeft, turnsRight, straight}
 use Rattle.plane.specs.Touching.{Touch}
 use Rattle.plane.specs.Sides.{above, on, below}
+use Rattle.plane.specs.Columns.{breadth, rise}
 use Rattle.plane.proofs.Heights.{Scale, Spans, Inside, height}
 use Rattle.plane.proofs.MeetLaws.{Read, level, meet, meet-vertical}
 
@@ -51,7 +56,7 @@ module _ (w N A B P Q : ℕ) (hw : 0 < w) (hN : 0 < N) (e : w * A + N * P ≡ w 
       go (equal h) = sym h
       go (more h) = absurd (omega (arith, mul-lt-mul-of-pos-left h hN, ap (λ n. w * n) l))
 
-  balance-ltb : ltb Q P ≡ ltb A B
+  pub balance-ltb : ltb Q P ≡ ltb A B
   balance-ltb = go (side A B)
     where
       go : Side A B → ltb Q P ≡ ltb A B
@@ -67,6 +72,27 @@ module _ (w N A B P Q : ℕ) (hw : 0 < w) (hN : 0 < N) (e : w * A + N * P ≡ w 
       go (equal l) = eq-eqb Q P (balance-eq l) ∙ sym (eq-eqb A B l)
       go (more l) = let g = balance-gt l in ne-eqb Q P (omega arith) ∙ sym (ne-eqb A B (omega arith))
 
+-- a turn from p, where q is w across and r is i
+pub turn-across : (p q r : Point) (w i : ℕ) → p .x + w ≡ q .x → p .x + i ≡ r .x
+    → plus p q r + w * p .y + i * q .y ≡ minus p q r + w * r .y + i * p .y
+turn-across p q r w i e g =
+    omega (arith, ap (λ n. n * r .y) e, ap (λ n. n * p .y) e, ap (λ n. n * q .y) g, ap (λ n. n * p .y) g)
+
+-- ---- along a segment
+
+pub height-straight : (M : ℕ) (s : Segment) (k l m : ℕ) → 2 * s .a .x ≤ k → k ≤ l → l ≤ m → m ≤ 2 * s .b .x
+    → (m - k) * height M s l ≡ (m - l) * height M s k + (l - k) * height M s m
+unfolding height
+height-straight M s k l m from lo hi upto =
+    go (M / (s .b .x - s .a .x)) (k - 2 * s .a .x) (2 * s .b .x - m) (l - k) (m - l)
+    _ _ _ _ _ (omega arith) (omega arith) (omega arith) (omega arith) (omega arith)
+  where
+    -- k is f past the left end, m is g before the right end, and l is i past k and j before m
+    go : (q f g i j n fl fm gl gk : ℕ) → n ≡ i + j → fl ≡ f + i → fm ≡ f + i + j → gl ≡ g + j → gk ≡ g + j + i
+        → n * (q * (s .a .y * gl + s .b .y * fl))
+        ≡ j * (q * (s .a .y * gk + s .b .y * f)) + i * (q * (s .a .y * g + s .b .y * fm))
+    go q f g i j n fl fm gl gk en el em er ek = rw (en, el, em, er, ek) (omega arith)
+
 module _ (M : ℕ) (scale : Scale M) where
   -- a segment at a half column that it spans, in additive form
   unfoldable read : (s : Segment) (k : ℕ) → Spans s k
@@ -80,7 +106,18 @@ module _ (M : ℕ) (scale : Scale M) where
     unit = omega (arith, scale .divides (s .b .x - s .a .x) (omega arith) (omega arith));
   }
 
-  -- ---- at its own ends
+  -- ---- at a column, and at its own ends
+
+  pub height-rise : (s : Segment) (x : ℕ) → Spans s (2 * x) → breadth s * height M s (2 * x) ≡ 2 * M * rise x s
+  unfolding height
+  height-rise s x h =
+      go (s .b .x - s .a .x) (M / (s .b .x - s .a .x)) (s .b .x - x) (x - s .a .x)
+      (2 * s .b .x - 2 * x) (2 * x - 2 * s .a .x)
+      (scale .divides _ (omega arith) (omega arith)) (omega arith) (omega arith)
+    where
+      go : (w q j i jj ii : ℕ) → q * w ≡ M → jj ≡ 2 * j → ii ≡ 2 * i
+          → w * (q * (s .a .y * jj + s .b .y * ii)) ≡ 2 * M * (s .a .y * j + s .b .y * i)
+      go w q j i jj ii e ej ei = rw (ej, ei) (omega (arith, ap (λ n. 2 * n * (s .a .y * j + s .b .y * i)) e))
 
   pub height-a : (s : Segment) → s .a .x < s .b .x → s .b .x < 65536 → height M s (2 * s .a .x) ≡ 2 * M * s .a .y
   unfolding height
@@ -159,44 +196,17 @@ module _ (M : ℕ) (scale : Scale M) where
 
   -- the height of the point less that of s is a multiple of their turn
   at-point : (s : Segment) (p : Point) → Spans s (2 * p .x)
-      → (s .b .x - s .a .x) * height M s (2 * p .x) + 2 * M * plus (s .a) (s .b) p
-      ≡ (s .b .x - s .a .x) * (2 * M * p .y) + 2 * M * minus (s .a) (s .b) p
-  unfolding height
+      → breadth s * height M s (2 * p .x) + 2 * M * plus (s .a) (s .b) p
+      ≡ breadth s * (2 * M * p .y) + 2 * M * minus (s .a) (s .b) p
   at-point s p h =
-      go (s .b .x - s .a .x) (M / (s .b .x - s .a .x)) (2 * s .b .x - 2 * p .x) (2 * p .x - 2 * s .a .x)
-      (p .x - s .a .x) (s .b .x - p .x) (scale .divides _ (omega arith) (omega arith))
-      (omega arith) (omega arith) (omega arith) (omega arith) (omega arith)
+      go (s .b .x - s .a .x) (p .x - s .a .x) (s .b .x - p .x) (height M s (2 * p .x))
+      (height-rise s (p .x) h) (omega arith) (turn-across (s .a) (s .b) p _ _ (omega arith) (omega arith))
     where
       -- p is i past a and j before b
-      go : (w q jj ii i j : ℕ) → q * w ≡ M → jj ≡ 2 * j → ii ≡ 2 * i
-          → s .a .x + i ≡ p .x → p .x + j ≡ s .b .x → i + j ≡ w
-          → w * (q * (s .a .y * jj + s .b .y * ii)) + 2 * M * plus (s .a) (s .b) p
-          ≡ w * (2 * M * p .y) + 2 * M * minus (s .a) (s .b) p
-      go w q jj ii i j e ej ei lo hi wide =
-          rw (ej, ei)
-          (ap (λ n. n + 2 * M * plus (s .a) (s .b) p) (scaled (s .a .y * (2 * j) + s .b .y * (2 * i))) ∙ turned)
-        where
-          scaled : (r : ℕ) → w * (q * r) ≡ M * r
-          scaled r = omega (arith, ap (λ n. n * r) e)
-
-          even : s .a .y * j + s .b .y * i + plus (s .a) (s .b) p ≡ w * p .y + minus (s .a) (s .b) p
-          even =
-              omega (
-                arith,
-                ap (λ n. n * s .b .y) lo,
-                ap (λ n. n * s .a .y) hi,
-                ap (λ n. n * p .y) lo,
-                ap (λ n. n * p .y) hi,
-                ap (λ n. n * p .y) wide,
-              )
-
-          turned : M * (s .a .y * (2 * j) + s .b .y * (2 * i)) + 2 * M * plus (s .a) (s .b) p
-              ≡ w * (2 * M * p .y) + 2 * M * minus (s .a) (s .b) p
-          turned = regroup (s .a .y) (s .b .y) (plus (s .a) (s .b) p) (minus (s .a) (s .b) p) (p .y) even
-            where
-              regroup : (ay by P Q y : ℕ) → ay * j + by * i + P ≡ w * y + Q
-                  → M * (ay * (2 * j) + by * (2 * i)) + 2 * M * P ≡ w * (2 * M * y) + 2 * M * Q
-              regroup ay by P Q y g = omega (arith, ap (λ n. 2 * M * n) g)
+      go : (w i j H : ℕ) → w * H ≡ 2 * M * (s .a .y * j + s .b .y * i) → i + j ≡ w
+          → plus (s .a) (s .b) p + w * s .a .y + i * s .b .y ≡ minus (s .a) (s .b) p + w * p .y + i * s .a .y
+          → w * H + 2 * M * plus (s .a) (s .b) p ≡ w * (2 * M * p .y) + 2 * M * minus (s .a) (s .b) p
+      go w i j H e wide g = omega (arith, ap (λ n. 2 * M * n) g, ap (λ n. 2 * M * n * s .a .y) wide)
 
   module _ (s : Segment) (p : Point) (h : Spans s (2 * p .x)) where
     pub above-is : above p s ≡ ltb (height M s (2 * p .x)) (2 * M * p .y)

@@ -13,4 +13,6 @@ pub mod CrossLaws
 pub mod SharedLaws
 pub mod TouchLaws
 pub mod OrderLaws
+pub mod RiseLaws
+pub mod ColumnLaws
 pub mod TouchExamples
