@@ -41,7 +41,7 @@ fn across_of(r: Record) -> u16
 fn strip_of(w: u16, a: u16, b: u16) -> u64
     ensures { λ m. ⌜ Term (strip w a b) m ⌝ }
 {
-    grid::product(w, a) + grid::product(w, b)
+    points::product(w, a) + points::product(w, b)
 }
 
 fn gain_of(r: Record) -> u64

@@ -2,9 +2,9 @@
 // heads. The gate compares the lines with the file stdout.
 use grid::Coord;
 use grid::Located;
-use grid::Turn;
 use grid::point_of;
 use plane::Point;
+use points::Turn;
 use record::Record;
 
 fn main() {
@@ -99,7 +99,7 @@ fn coordinates() {
 
 fn say_turn(text: &[u8], p: Point, q: Point, r: Point) {
     say(text);
-    let t = grid::turn_of(p, q, r);
+    let t = points::turn_of(p, q, r);
     match t {
         Turn::Left => say(b": left\n"),
         Turn::Straight => say(b": straight\n"),

@@ -1,8 +1,8 @@
 -- What an accepted chart is, said without a verdict: a region as document 01 lays it out. That the verdict accepts
 -- exactly the regions is `accepted-is` of proofs/RegionLaws.antt.
 --     Sound rs       of the records: ends that differ, a mark 0 or 1, both halves of each segment, no two distinct
---                    segments sharing a point that is not an end of both, an even number of segments at every point of
---                    the plane's grid, every mark the counted one
+--                    segments sharing a point that is not an end of both, an even number of segments at every point,
+--                    every mark the counted one
 --     Region s       of the array: whole records, no more than the limit, each strictly after the one before, sound
 -- Assumes nothing.
 use mathlib.Core.Path.{_≡_}

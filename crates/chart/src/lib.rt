@@ -41,7 +41,7 @@ fn first_equal_ends(s: &[i16], n: usize) -> usize
     let mut i = 0;
     while i < n {
         let r = record_at(s, i);
-        if grid::is_same(r.dom, r.other) {
+        if points::is_same(r.dom, r.other) {
             return i;
         }
         i += 1;

@@ -1,2 +1,1 @@
 pub mod Coordinates
-pub mod Turning

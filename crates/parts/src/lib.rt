@@ -17,7 +17,7 @@ fn is_there(s: &[i16], p: Point, i: usize) -> bool
     ensures { λ b. ⌜ b ≡ atCorner p (recordAt (now (s .entry)) i) ⌝ }
 {
     let r = record_at(s, i);
-    grid::is_same(r.dom, p)
+    points::is_same(r.dom, p)
 }
 
 fn is_elsewhere(s: &[i16], p: Point, i: usize) -> bool

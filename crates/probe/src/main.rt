@@ -8,8 +8,8 @@
 // A part is answered by its length, one byte, and its numbers.
 ghost use Prim.Native.Nat.{_+_, _≤_, _<_};
 ghost use lib.ListN.{length};
-use grid::Turn;
 use plane::Point;
+use points::Turn;
 
 const QUESTION: usize = 88;
 
@@ -96,7 +96,7 @@ fn say_turn(a: [i16; 20]) {
     let p = point(grid::count_of(a[0]), grid::count_of(a[1]));
     let q = point(grid::count_of(a[2]), grid::count_of(a[3]));
     let r = point(grid::count_of(a[4]), grid::count_of(a[5]));
-    let t = grid::turn_of(p, q, r);
+    let t = points::turn_of(p, q, r);
     match t {
         Turn::Left => say(b"L"),
         Turn::Straight => say(b"S"),

@@ -8,7 +8,7 @@ use Rattle.plane.specs.declared.Point.{Point}
 use Rattle.plane.specs.declared.Segment.{Segment}
 use Rattle.grid.specs.declared.Coord.{Coord}
 use Rattle.grid.specs.declared.Located.{Located}
-use Rattle.grid.specs.declared.Turn.{Turn}
+use Rattle.points.specs.declared.Turn.{Turn}
 use Rattle.record.specs.declared.Record.{Record}
 use Rattle.grid.proofs.Coord.new.Kinds as new-kinds
 use Rattle.grid.proofs.Coord.new.Reads as new
@@ -28,20 +28,20 @@ use Rattle.grid.proofs.number_at.Kinds as number-at-kinds
 use Rattle.grid.proofs.number_at.Reads as number-at
 use Rattle.grid.proofs.point_of.Kinds as point-of-kinds
 use Rattle.grid.proofs.point_of.Reads as point-of
-use Rattle.grid.proofs.is_before.Kinds as is-before-kinds
-use Rattle.grid.proofs.is_before.Reads as is-before
-use Rattle.grid.proofs.is_same.Kinds as is-same-kinds
-use Rattle.grid.proofs.is_same.Reads as is-same
-use Rattle.grid.proofs.product.Kinds as product-kinds
-use Rattle.grid.proofs.product.Reads as product
-use Rattle.grid.proofs.turn_of.Kinds as turn-of-kinds
-use Rattle.grid.proofs.turn_of.Reads as turn-of
-use Rattle.grid.proofs.turns_left.Kinds as turns-left-kinds
-use Rattle.grid.proofs.turns_left.Reads as turns-left
-use Rattle.grid.proofs.turns_right.Kinds as turns-right-kinds
-use Rattle.grid.proofs.turns_right.Reads as turns-right
-use Rattle.grid.proofs.is_straight.Kinds as is-straight-kinds
-use Rattle.grid.proofs.is_straight.Reads as is-straight
+use Rattle.points.proofs.is_before.Kinds as is-before-kinds
+use Rattle.points.proofs.is_before.Reads as is-before
+use Rattle.points.proofs.is_same.Kinds as is-same-kinds
+use Rattle.points.proofs.is_same.Reads as is-same
+use Rattle.points.proofs.product.Kinds as product-kinds
+use Rattle.points.proofs.product.Reads as product
+use Rattle.points.proofs.turn_of.Kinds as turn-of-kinds
+use Rattle.points.proofs.turn_of.Reads as turn-of
+use Rattle.points.proofs.turns_left.Kinds as turns-left-kinds
+use Rattle.points.proofs.turns_left.Reads as turns-left
+use Rattle.points.proofs.turns_right.Kinds as turns-right-kinds
+use Rattle.points.proofs.turns_right.Reads as turns-right
+use Rattle.points.proofs.is_straight.Kinds as is-straight-kinds
+use Rattle.points.proofs.is_straight.Reads as is-straight
 use Rattle.record.proofs.record_at.Kinds as record-at-kinds
 use Rattle.record.proofs.record_at.Reads as record-at
 use Rattle.record.proofs.is_left.Kinds as is-left-kinds
@@ -98,6 +98,8 @@ same-number-at κs a v w s t h k = h ∙ sym k
 
 pub same-point-of : Settled 0 point-of-kinds.ps point-of-kinds.r Point point-of.Post
 same-point-of κs a v w s t h k = h ∙ sym k
+
+-- ---- points
 
 pub same-is-before : Settled 0 is-before-kinds.ps is-before-kinds.r Bool is-before.Post
 same-is-before κs a v w s t h k = h ∙ sym k

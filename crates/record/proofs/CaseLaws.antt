@@ -8,9 +8,9 @@ use mathlib.Core.Bool.{Bool, true, false, cond}
 use lib.Dec.{ltb}
 use Rattle.counts.specs.Count.{_⊕_}
 use Rattle.plane.specs.Points.{before, same}
-use Rattle.grid.specs.Turning.{turnOf}
-use Rattle.grid.specs.declared.Turn.the-variants.{Left, Straight, Right}
-use Rattle.grid.proofs.TurnLaws.{turnOf-says-left, turnOf-says-right, turnOf-says-straight}
+use Rattle.points.specs.Turning.{turnOf}
+use Rattle.points.specs.declared.Turn.the-variants.{Left, Straight, Right}
+use Rattle.points.proofs.TurnLaws.{turnOf-says-left, turnOf-says-right, turnOf-says-straight}
 use Rattle.record.specs.declared.Record.{Record}
 use Rattle.record.specs.Order.{left, squareLength, leads, earlier, precedes}
 

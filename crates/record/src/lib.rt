@@ -51,7 +51,7 @@ pub fn record_at(s: &[i16], i: usize) -> Record
 pub fn is_left(r: Record) -> bool
     ensures { λ b. ⌜ b ≡ left r ⌝ }
 {
-    grid::is_before(r.dom, r.other)
+    points::is_before(r.dom, r.other)
 }
 
 pub fn other_half(r: Record) -> Record

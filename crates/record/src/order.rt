@@ -3,7 +3,7 @@ ghost use mathlib.Core.Path.{_≡_};
 ghost use Rattle.record.specs.Order.{gap, Squared, leads, earlier, precedes};
 use crate::Record;
 use crate::is_left;
-use grid::Turn;
+use points::Turn;
 
 fn gap_of(m: u16, n: u16) -> u16
     ensures { λ r. ⌜ r ≡ gap m n ⌝ }
@@ -19,14 +19,14 @@ fn square_length_of(r: Record) -> u64
 {
     let w = gap_of(r.dom.x, r.other.x);
     let h = gap_of(r.dom.y, r.other.y);
-    grid::product(w, w) + grid::product(h, h)
+    points::product(w, w) + points::product(h, h)
 }
 
 // Which of two records of one half at one end leads. Lengths are looked at only in line.
 fn is_leading(r: Record, e: Record) -> bool
     ensures { λ b. ⌜ b ≡ leads r e ⌝ }
 {
-    let t = grid::turn_of(r.dom, r.other, e.other);
+    let t = points::turn_of(r.dom, r.other, e.other);
     match t {
         Turn::Left => true,
         Turn::Straight => square_length_of(r) < square_length_of(e),
@@ -47,8 +47,8 @@ fn is_earlier_here(r: Record, e: Record) -> bool
 pub fn is_earlier(r: Record, e: Record) -> bool
     ensures { λ b. ⌜ b ≡ precedes r e ⌝ }
 {
-    if grid::is_before(r.dom, e.dom) {
+    if points::is_before(r.dom, e.dom) {
         return true;
     }
-    grid::is_same(r.dom, e.dom) && is_earlier_here(r, e)
+    points::is_same(r.dom, e.dom) && is_earlier_here(r, e)
 }

@@ -27,7 +27,7 @@ pub fn segment_of(r: Record) -> Segment
 pub fn is_record(e: Record, r: Record) -> bool
     ensures { λ b. ⌜ b ≡ isRecord e r ⌝ }
 {
-    grid::is_same(r.dom, e.dom) & grid::is_same(r.other, e.other) & is_mark(r.mark, e.mark)
+    points::is_same(r.dom, e.dom) & points::is_same(r.other, e.other) & is_mark(r.mark, e.mark)
 }
 
 fn is_mark(m: u16, n: u16) -> bool
@@ -63,14 +63,14 @@ fn is_reaching(x: u16, s: Segment) -> bool
 pub fn is_end(p: Point, s: Segment) -> bool
     ensures { λ b. ⌜ b ≡ endsAt p s ⌝ }
 {
-    grid::is_same(s.a, p) | grid::is_same(s.b, p)
+    points::is_same(s.a, p) | points::is_same(s.b, p)
 }
 
 // Whether p lies inside s, and is none of its ends.
 fn is_within(s: Segment, p: Point) -> bool
     ensures { λ b. ⌜ b ≡ within s p ⌝ }
 {
-    grid::is_before(s.a, p) & grid::is_before(p, s.b) & grid::is_straight(s.a, s.b, p)
+    points::is_before(s.a, p) & points::is_before(p, s.b) & points::is_straight(s.a, s.b, p)
 }
 
 // Whether p lies on s, ends included.
@@ -84,7 +84,7 @@ pub fn is_on(p: Point, s: Segment) -> bool
 pub fn is_below_point(p: Point, t: Segment) -> bool
     ensures { λ b. ⌜ b ≡ belowPoint p t ⌝ }
 {
-    is_covering(p.x, t) & grid::turns_left(t.a, t.b, p)
+    is_covering(p.x, t) & points::turns_left(t.a, t.b, p)
 }
 
 // ---- two segments
@@ -93,8 +93,8 @@ pub fn is_below_point(p: Point, t: Segment) -> bool
 fn is_split(s: Segment, t: Segment) -> bool
     ensures { λ b. ⌜ b ≡ splits s t ⌝ }
 {
-    grid::turns_left(s.a, s.b, t.a) & grid::turns_right(s.a, s.b, t.b)
-        | grid::turns_right(s.a, s.b, t.a) & grid::turns_left(s.a, s.b, t.b)
+    points::turns_left(s.a, s.b, t.a) & points::turns_right(s.a, s.b, t.b)
+        | points::turns_right(s.a, s.b, t.a) & points::turns_left(s.a, s.b, t.b)
 }
 
 pub fn is_touching(s: Segment, t: Segment) -> bool
@@ -112,11 +112,11 @@ pub fn is_counted_for(s: Segment, t: Segment) -> bool
     ensures { λ b. ⌜ b ≡ countedFor s t ⌝ }
 {
     if is_vertical(s) {
-        return is_reaching(s.a.x, t) & !grid::turns_right(t.a, t.b, s.a);
+        return is_reaching(s.a.x, t) & !points::turns_right(t.a, t.b, s.a);
     }
     is_covering(s.a.x, t)
-        & (grid::turns_left(t.a, t.b, s.a)
-            | grid::is_straight(t.a, t.b, s.a) & !grid::turns_left(s.a, s.b, t.b))
+        & (points::turns_left(t.a, t.b, s.a)
+            | points::is_straight(t.a, t.b, s.a) & !points::turns_left(s.a, s.b, t.b))
 }
 
 // ---- which of two is the higher
@@ -137,7 +137,7 @@ fn rise_of(x: u16, s: Segment) -> u64
 {
     let onward = past(s.b.x, x);
     let behind = past(x, s.a.x);
-    grid::product(s.a.y, onward) + grid::product(s.b.y, behind)
+    points::product(s.a.y, onward) + points::product(s.b.y, behind)
 }
 
 // A rise by another segment's breadth, so that the two compare. Three coordinates multiplied stay below 2 to the 50.
@@ -154,5 +154,5 @@ pub fn is_higher(x: u16, s: Segment, t: Segment) -> bool
 {
     let low = level_of(rise_of(x, t), past(s.b.x, s.a.x));
     let high = level_of(rise_of(x, s), past(t.b.x, t.a.x));
-    (low < high) | (grid::is_same(s.a, t.a) & grid::turns_left(t.a, t.b, s.b))
+    (low < high) | (points::is_same(s.a, t.a) & points::turns_left(t.a, t.b, s.b))
 }

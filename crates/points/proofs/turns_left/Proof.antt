@@ -3,8 +3,8 @@ use mathlib.Core.Path.{ap₂}
 use lib.Dec.{ltb}
 use borrow.Author.Needs.{needs}
 use Rattle.plane.specs.Turns.{turnsLeft}
-use Rattle.grid.proofs.turns_left.Statement.{statement}
-use Rattle.grid.proofs.turns_left.Tie as tie
+use Rattle.points.proofs.turns_left.Statement.{statement}
+use Rattle.points.proofs.turns_left.Tie as tie
 
 returns : tie.Need-returns
 unfolding turnsLeft

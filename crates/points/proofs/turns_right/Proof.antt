@@ -3,8 +3,8 @@ use mathlib.Core.Path.{ap₂}
 use lib.Dec.{ltb}
 use borrow.Author.Needs.{needs}
 use Rattle.plane.specs.Turns.{turnsRight}
-use Rattle.grid.proofs.turns_right.Statement.{statement}
-use Rattle.grid.proofs.turns_right.Tie as tie
+use Rattle.points.proofs.turns_right.Statement.{statement}
+use Rattle.points.proofs.turns_right.Tie as tie
 
 returns : tie.Need-returns
 unfolding turnsRight

@@ -3,8 +3,8 @@ use mathlib.Core.Path.{ap₂}
 use lib.Dec.{eqb}
 use borrow.Author.Needs.{needs}
 use Rattle.plane.specs.Turns.{straight}
-use Rattle.grid.proofs.is_straight.Statement.{statement}
-use Rattle.grid.proofs.is_straight.Tie as tie
+use Rattle.points.proofs.is_straight.Statement.{statement}
+use Rattle.points.proofs.is_straight.Tie as tie
 
 returns : tie.Need-returns
 unfolding straight

@@ -10,8 +10,8 @@ use lib.Dec.{ltb, eqb}
 use borrow.Author.Tests.{ltb-true, ltb-false, lt-ltb, le-ltb, eq-eqb, ne-eqb}
 use Rattle.plane.specs.declared.Point.{Point}
 use Rattle.plane.specs.Turns.{plus, minus, turnsLeft, turnsRight, straight}
-use Rattle.grid.specs.Turning.{turnOf}
-use Rattle.grid.specs.declared.Turn.the-variants.{Left, Straight, Right}
+use Rattle.points.specs.Turning.{turnOf}
+use Rattle.points.specs.declared.Turn.the-variants.{Left, Straight, Right}
 
 module _ (p q r : Point) {m n : ℕ} (em : m ≡ minus p q r) (en : n ≡ plus p q r) where
   pub turnOf-left : m < n → Left ≡ turnOf p q r

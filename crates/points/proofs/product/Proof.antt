@@ -1,8 +1,8 @@
 -- `product` meets its contract: the range law of the plane, cited here and nowhere else. Assumes nothing.
 use borrow.Author.Needs.{needs}
 use Rattle.plane.proofs.RangeLaws.{product-range, product-fits}
-use Rattle.grid.proofs.product.Statement.{statement}
-use Rattle.grid.proofs.product.Tie as tie
+use Rattle.points.proofs.product.Statement.{statement}
+use Rattle.points.proofs.product.Tie as tie
 
 mul-result : tie.Need-mul-result
 mul-result c = search (needs, product-fits)

@@ -1,8 +1,8 @@
 -- `is_before` meets its contract: each test that led there is one of the definition. Assumes nothing.
 use borrow.Author.Needs.{needs}
 use borrow.Author.Tests.{lt-ltb, le-ltb, eq-eqb, ne-eqb}
-use Rattle.grid.proofs.is_before.Statement.{statement}
-use Rattle.grid.proofs.is_before.Tie as tie
+use Rattle.points.proofs.is_before.Statement.{statement}
+use Rattle.points.proofs.is_before.Tie as tie
 
 ruleset tests = (needs, lt-ltb, le-ltb, eq-eqb, ne-eqb)
 

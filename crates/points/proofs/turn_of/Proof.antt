@@ -1,8 +1,8 @@
 -- `turn_of` meets its contract: the comparison that led to each answer is its case. Assumes nothing.
 use borrow.Author.Needs.{needs}
-use Rattle.grid.proofs.TurnLaws.{turnOf-left, turnOf-right, turnOf-straight}
-use Rattle.grid.proofs.turn_of.Statement.{statement}
-use Rattle.grid.proofs.turn_of.Tie as tie
+use Rattle.points.proofs.TurnLaws.{turnOf-left, turnOf-right, turnOf-straight}
+use Rattle.points.proofs.turn_of.Statement.{statement}
+use Rattle.points.proofs.turn_of.Tie as tie
 
 returns : tie.Need-returns
 returns c =

@@ -9,8 +9,8 @@ use mathlib.Core.Bool.{cond}
 use Prim.Native.Nat.{ℕ, _*_, _≤_}
 use Rattle.plane.specs.declared.Point.{Point}
 use Rattle.plane.specs.Turns.{turnsLeft, turnsRight, largestProduct}
-use Rattle.grid.specs.declared.Turn.{Turn}
-use Rattle.grid.specs.declared.Turn.the-variants.{Left, Straight, Right}
+use Rattle.points.specs.declared.Turn.{Turn}
+use Rattle.points.specs.declared.Turn.the-variants.{Left, Straight, Right}
 
 unfoldable pub turnOf : Point → Point → Point → Turn
 turnOf p q r = cond (turnsLeft p q r) Left (cond (turnsRight p q r) Right Straight)
