@@ -1,9 +1,4 @@
 #!/usr/bin/env bash
-# Builds the judge of judge.rs and has it ask the proved library, through the program probe, questions with a fixed
-# seed. Any number of questions by hand: tests/judge.sh QUESTIONS SEED
-set -u
-cd "$(dirname "$0")/.." || exit 2
-PATH="$PATH:${HOME:-}/.cargo/bin"
-rt check probe > /dev/null || exit 1
-rustc --edition 2021 -O -o target/judge tests/judge.rs || exit 1
-target/judge target/bin/probe "${1:-20000}" "${2:-1}"
+# Has the judge of judge.rs ask the proved library, through the program probe, questions with a fixed seed.
+# Any number of questions by hand: tests/judge.sh QUESTIONS SEED
+exec bash "$(dirname "$0")/judging/ask.sh" judge probe "${1:-20000}" "${2:-1}"
