@@ -12,7 +12,7 @@ use Prim.Native.Nat.{ℕ, zero, suc, _-_, _<_}
 use native.Mathlib.Omega.{arith}
 use lib.Dec.{eqb}
 use lib.IntN.{ℤ}
-use borrow.Author.Tests.{eqb-true, eq-eqb, lt-ltb, not-false}
+use borrow.Author.Tests.{eqb-true, eq-eqb, not-false}
 use Rattle.counts.specs.Count.{_∈_}
 use Rattle.counts.proofs.TestLaws.{is-false}
 use Rattle.counts.proofs.HighestLaws.{any-member}
@@ -24,6 +24,7 @@ use Rattle.record.specs.Order.{otherHalf, precedes}
 use Rattle.segment.specs.Segments.{segment, isRecord}
 use Rattle.segment.proofs.SegmentLaws.{isRecord-true, isRecord-refl}
 use Rattle.chart.specs.Rows.{equalEnds, badMark, notAfter, noOtherHalf, countedMark, wrongMark}
+use Rattle.chart.proofs.CaseLaws.{notAfter-later}
 
 pub equalEnds-off : (r : Record) → (equalEnds r ≡ false) ↔ (r .dom ≡ r .other → ⊥)
 equalEnds-off r = (
@@ -50,8 +51,8 @@ badMark-off r = (there (eqb (r .mark) unmarked) (eqb (r .mark) marked) refl refl
 
 notAfter-suc : (s : List ℤ) (i : ℕ) → notAfter s (suc i) ≡ not (precedes (recordAt s i) (recordAt s (suc i)))
 notAfter-suc s i =
-    let e : suc i - 1 ≡ i = omega arith in
-    rw (lt-ltb 0 (suc i) (omega arith), e)
+    let e : i ≡ suc i - 1 = omega arith in
+    sym (notAfter-later s (suc i) (λ z. absurd (omega arith)) (ap (recordAt s) e) refl refl)
 
 pub notAfter-off : (s : List ℤ)
     → ((i : ℕ) → i < recordCount s → notAfter s i ≡ false)

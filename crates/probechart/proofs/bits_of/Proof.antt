@@ -1,23 +1,18 @@
 -- `bits_of` is safe: one more than a number below zero can be turned around, and is then a count. Assumes nothing.
 use mathlib.Core.Path.{_≡_, refl, sym, ap, _∙_}
-use mathlib.Core.Bool.{true, false, true≢false}
+use mathlib.Core.Bool.{true, true≢false}
 use Prim.Native.Nat.{zero, suc, zero-le}
 use native.Mathlib.Omega.{arith}
 use borrow.Author.Needs.{needs}
 use borrow.Author.Tests.{lt-ltb, le-ltb}
-use lib.Dec.{T}
-use lib.IntN.{ℤ, pos, negsuc, natAbs, _+ℤ_, _-ℤ_}
-use lib.Signed.{mag, ltZ, nonNeg}
+use lib.IntN.{ℤ, pos, negsuc, _+ℤ_, _-ℤ_}
+use lib.Signed.{mag, ltZ}
 use mir.Syntax.{w64}
-use mir.Val.{Fits, SFits, toZ, ofZ}
+use mir.Val.{SFits, toZ, ofZ}
 use mir.ValLaws.{toZ-ofZ}
+use Rattle.area.proofs.CastLaws.{natural-fits}
 use Rattle.probechart.proofs.bits_of.Statement.{statement}
 use Rattle.probechart.proofs.bits_of.Tie as tie
-
--- a number that is not below zero is a count
-counted : (z : ℤ) → SFits w64 z → ltZ z (pos 0) ≡ false → T (nonNeg z) × Fits w64 (natAbs z)
-counted (pos n) h e = (tt, record { fits = omega (arith, h .sfits) })
-counted (negsuc n) h e = absurd (true≢false e)
 
 module _ (z : ℤ) (h : SFits w64 z) (below : ltZ z (pos 0) ≡ true) where
   turned : pos 0 -ℤ (z +ℤ pos 1) ≡ pos (mag z)
@@ -72,7 +67,7 @@ cast-result-2 : tie.Need-cast-result-2
 cast-result-2 c =
     let v = c .before .args .v in
     let h = c .before .fits .v in
-    rw (toZ-ofZ w64 v h) (counted v h (rw (toZ-ofZ w64 v h) at (c .if1 .left)))
+    rw (toZ-ofZ w64 v h) (natural-fits v h (rw (toZ-ofZ w64 v h) at (c .if1 .left)))
 
 pub bits-of-spec : {M : Type 1} → statement M
 bits-of-spec =
