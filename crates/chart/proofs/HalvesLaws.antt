@@ -11,7 +11,8 @@ use mathlib.Core.List.{List}
 use native.Mathlib.Omega.{arith}
 use Rattle.counts.specs.Count.{_∈_, any, Even}
 use Rattle.counts.proofs.TestLaws.{and-true, and-intro, is-false}
-use Rattle.counts.proofs.CountLaws.{count-off, odd-off}
+use Rattle.counts.proofs.CountLaws.{count-off}
+use Rattle.counts.proofs.ParityLaws.{odd-off}
 use Rattle.counts.proofs.HighestLaws.{any-member, any-none}
 use Rattle.plane.specs.declared.Point.{Point}
 use Rattle.plane.specs.Points.{same}

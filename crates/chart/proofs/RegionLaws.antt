@@ -1,7 +1,8 @@
 -- The verdict accepts exactly the regions: what the refusal table leaves is what specs/Regions.antt says.
---     accepted-is     both ways, for every array of numbers
+--     accepted-is       both ways, for every array of numbers
+--     accepted-sound    so the records of what a program found accepted are sound
 -- Assumes nothing.
-use mathlib.Core.Path.{_≡_}
+use mathlib.Core.Path.{_≡_, sym, _∙_}
 use mathlib.Core.Logic.{_↔_}
 use mathlib.Core.List.{List}
 use lib.IntN.{ℤ}
@@ -9,6 +10,7 @@ use Rattle.counts.specs.Count.{_∈_}
 use Rattle.record.specs.declared.Record.{Record}
 use Rattle.record.specs.Records.{records}
 use Rattle.record.specs.Order.{otherHalf, Proper}
+use Rattle.chart.specs.declared.Verdict.{Verdict}
 use Rattle.chart.specs.declared.Verdict.the-variants.{Accepted}
 use Rattle.chart.specs.Verdicts.{verdict}
 use Rattle.chart.specs.Regions.{Sound, Region}
@@ -56,3 +58,6 @@ module _ (s : List ℤ) where
   accepted-is =
       let h = verdict-accepted s in
       ((λ e. faultless-region (h .0 e)), (λ g. h .1 (region-faultless g)))
+
+  pub accepted-sound : {v : Verdict} → v ≡ verdict s → v ≡ Accepted → Sound (records s)
+  accepted-sound h e = accepted-is .0 (sym h ∙ e) .sound

@@ -1,7 +1,6 @@
 // The check of a chart (document 01, "When a chart is turned away"): any array of numbers, to the paper's verdict.
 // The plain engine: each row of the table looks at every record, and compares each with each where the row asks for it.
 ghost use mathlib.Core.Path.{_≡_};
-ghost use mathlib.Core.Bool.{not};
 ghost use Prim.Native.Nat.{_+_, _*_, _≤_, _<_};
 ghost use lib.ListN.{length};
 ghost use Rattle.counts.specs.Scan.{Found, Counted};

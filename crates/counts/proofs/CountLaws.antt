@@ -1,23 +1,20 @@
--- Laws of `count`, `keep`, `all`, `any` and `odd` over any list and any test.
+-- Laws of `count`, `keep`, `all` and `any` over any list and any test.
 --     count-ext, count-off, count-some, count-le       by the members
 --     count-append, count-split, count-most            of two lists, of one cut at an index,
 --                                                      and no more than the length
---     count-keep, keep-mem, mem-keep                   counts under a filter
+--     count-keep, any-keep, keep-mem, mem-keep         counts under a filter
 --     all-is, any-is                                   the tests are what they say
---     odd-plus, odd-add, odd-less, odd-same, odd-off   parities of sums; not odd is even
 -- Assumes nothing.
 use mathlib.Core.Path.{_≡_, refl, sym, ap, _∙_}
 use mathlib.Core.Logic.{_⊎_, inl, inr, _↔_}
 use mathlib.Core.Bool.{Bool, true, false, _&&_, _||_, cond, true≢false}
 use mathlib.Core.List.{List, [], _∷_, _++_}
 use mathlib.Core.List.{List·Memᴰ·head, List·Memᴰ·tail, List·Memᴰ·not-nil, List·Memᴰ·cases-cons}
-use Prim.Native.Nat.{ℕ, _+_, _%_, _<_, _≤_}
-use lib.Dec.{eqb}
+use Prim.Native.Nat.{ℕ, _+_, _<_, _≤_}
 use lib.ListN.{length, take, drop, take-append-drop}
 use native.Mathlib.Omega.{arith}
-use borrow.Author.Tests.{eqb-false, eq-eqb, ne-eqb}
-use Rattle.counts.specs.Count.{_∈_, ind, sum, count, keep, all, any, odd, Even, _⊕_}
-use Rattle.counts.proofs.TestLaws.{tests, and-true}
+use Rattle.counts.specs.Count.{_∈_, ind, sum, count, keep, all, any}
+use Rattle.counts.proofs.TestLaws.{and-true}
 use Rattle.counts.proofs.SumLaws.{sum-ext, sum-le, sum-zero, sum-append}
 
 module _ {A : Type 0} where
@@ -71,6 +68,16 @@ module _ {A : Type 0} where
           → count q (cond a (x ∷ keep p xs) (keep p xs)) ≡ ind (a && q x) + count (λ y. p y && q y) xs
       go true ih = ap (λ n. ind (q x) + n) ih
       go false ih = omega arith
+
+  pub any-keep : (p q : A → Bool) (xs : List A) → any q (keep p xs) ≡ any (λ x. p x && q x) xs
+  unfolding any keep
+  any-keep p q [] = refl
+  any-keep p q (x ∷ xs) = go (p x) (any-keep p q xs)
+    where
+      go : (a : Bool) → any q (keep p xs) ≡ any (λ x. p x && q x) xs
+          → any q (cond a (x ∷ keep p xs) (keep p xs)) ≡ a && q x || any (λ y. p y && q y) xs
+      go true ih = ap (λ b. q x || b) ih
+      go false ih = ih
 
   pub keep-mem : (p : A → Bool) (xs : List A) (x : A) → x ∈ keep p xs → (x ∈ xs) × (p x ≡ true)
   unfolding keep
@@ -127,38 +134,3 @@ module _ {A : Type 0} where
       go : (b : Bool) → (any p ys ≡ true) ↔ (0 < count p ys) → (b || any p ys ≡ true) ↔ (0 < ind b + count p ys)
       go true ih = ((λ e. omega arith), (λ h. refl))
       go false ih = ((λ e. omega (arith, ih .0 e)), (λ h. ih .1 (omega arith)))
-
--- ---- parities
-
-pub odd-plus : (m n : ℕ) → odd (m + n) ≡ odd m ⊕ odd n
-odd-plus m n = go (eqb (m % 2) 1) (eqb (n % 2) 1) refl refl
-  where
-    go : (a b : Bool) → eqb (m % 2) 1 ≡ a → eqb (n % 2) 1 ≡ b → odd (m + n) ≡ a ⊕ b
-    go true true p q = ne-eqb ((m + n) % 2) 1 (omega (arith, tests))
-    go true false p q = eq-eqb ((m + n) % 2) 1 (omega (arith, tests, eqb-false (n % 2) 1 q))
-    go false true p q = eq-eqb ((m + n) % 2) 1 (omega (arith, tests, eqb-false (m % 2) 1 p))
-    go false false p q = ne-eqb ((m + n) % 2) 1 (omega (arith, eqb-false (m % 2) 1 p, eqb-false (n % 2) 1 q))
-
-pub odd-ind : (b : Bool) → odd (ind b) ≡ b
-odd-ind true = refl
-odd-ind false = refl
-
-pub odd-add : (a : ℕ) (d : Bool) → odd (a + ind d) ≡ odd a ⊕ d
-odd-add a d = odd-plus a (ind d) ∙ ap (λ b. odd a ⊕ b) (odd-ind d)
-
-pub odd-less : (m n g : ℕ) → m ≡ n + g → odd g ≡ odd m ⊕ odd n
-odd-less m n g e = sym (ap (λ k. odd k ⊕ odd n) e ∙ ap (λ b. b ⊕ odd n) (odd-plus n g) ∙ table (odd n) (odd g))
-  where
-    table : (a b : Bool) → a ⊕ b ⊕ a ≡ b
-    table true true = refl
-    table true false = refl
-    table false true = refl
-    table false false = refl
-
--- the same remainder is the same parity
-pub odd-same : (m n : ℕ) → m % 2 ≡ n % 2 → odd m ≡ odd n
-odd-same m n e = ap (λ k. eqb k 1) e
-
--- what is not odd is even
-pub odd-off : (n : ℕ) → (odd n ≡ false) ↔ Even n
-odd-off n = ((λ e. omega (arith, eqb-false (n % 2) 1 e)), (λ e. ne-eqb (n % 2) 1 (omega arith)))

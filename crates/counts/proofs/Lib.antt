@@ -1,6 +1,8 @@
 pub mod TestLaws
 pub mod SumLaws
 pub mod CountLaws
+pub mod MapLaws
+pub mod ParityLaws
 pub mod FirstLaws
 pub mod FibreLaws
 pub mod HighestLaws
@@ -9,3 +11,4 @@ pub mod TelescopeLaws
 pub mod ScanLaws
 pub mod LoopLaws
 pub mod ReadLaws
+pub mod TopmostLaws

@@ -3,16 +3,18 @@
 --     read-hit, read-more      looking for the first
 --     read-yes, read-no        counting
 --     reading                  for `search`: what closes the needs of such a loop
+--     found-passes             what stands at a first place passes
 --     found-any, found-none    a first place is below n exactly if some member passes
 -- Assumes nothing.
 use mathlib.Core.Path.{_≡_, sym, ap, _∙_}
 use mathlib.Core.Bool.{Bool, true, false, not}
 use Prim.Native.Nat.{ℕ, _+_, _<_}
+use native.Mathlib.Omega.{arith}
 use lib.Dec.{ltb, leb}
 use Rattle.counts.specs.Count.{any, listed}
 use Rattle.counts.specs.Scan.{Found, Counted}
 use Rattle.counts.proofs.TestLaws.{leb-not}
-use Rattle.counts.proofs.ScanLaws.{any-first}
+use Rattle.counts.proofs.ScanLaws.{any-first, firstFrom-passes}
 use Rattle.counts.proofs.LoopLaws.{Seen, seen-none, seen-hit, seen-more, seen-all}
 use Rattle.counts.proofs.LoopLaws.{counted-none, counted-yes, counted-no, counted-all}
 use Rattle.counts.proofs.LoopLaws.{summed-none, summed-more, summed-all}
@@ -33,6 +35,11 @@ module _ {A : Type 0} (p : A → Bool) (f : ℕ → A) where
   pub read-no : {i m k : ℕ} {x : A} {b : Bool} → Counted p f i m → x ≡ f i → b ≡ p x → b ≡ false → k ≡ m
       → Counted p f (i + 1) k
   read-no s r e t h = counted-no p f s (e ∙ ap p r) t h
+
+  pub found-passes : {a n r : ℕ} → Found p f a n r → r < n → p (f r) ≡ true
+  found-passes {a} {n} h l =
+      ap (λ i. p (f i)) (h .is)
+      ∙ firstFrom-passes p f a n (omega (arith, h .low, h .high)) (omega (arith, h .is))
 
   pub found-any : {n r : ℕ} → Found p f 0 n r → ltb r n ≡ any p (listed f 0 n)
   found-any {n} {r} h = ap (λ i. ltb i n) (h .is) ∙ sym (any-first p f n)

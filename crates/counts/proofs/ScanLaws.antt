@@ -2,6 +2,7 @@
 --     firstFrom-end, -hit, -miss               its value by the first step
 --     firstFrom-low, -high, -passes, -fails    its range, and what stands at the first place, and before it
 --     firstFrom-least                          what passes is no earlier
+--     firstFrom-unique                         what passes where nothing before it does is the first
 --     firstFrom-none, any-first                no place passes; it is below n exactly if some member passes
 -- Assumes nothing.
 use mathlib.Core.Path.{_≡_, sym, ap, _∙_}
@@ -13,7 +14,7 @@ use lib.Dec.{ltb}
 use borrow.Author.Tests.{ltb-true, ltb-false, lt-ltb}
 use Rattle.counts.specs.Count.{_∈_, any, firstIndex, listed}
 use Rattle.counts.specs.Scan.{firstFrom}
-use Rattle.counts.proofs.TestLaws.{is-false, same-test, lt-or-le}
+use Rattle.counts.proofs.TestLaws.{is-false, same-test, lt-or-le, Side, less, equal, more, side}
 use Rattle.counts.proofs.FirstLaws.{firstIndex-most, firstIndex-passes, firstIndex-fails}
 use Rattle.counts.proofs.FirstLaws.{listed-length, listed-at, listed-mem, mem-listed}
 use Rattle.counts.proofs.HighestLaws.{any-member}
@@ -73,6 +74,16 @@ module _ {A : Type 0} (p : A → Bool) (f : ℕ → A) (a n : ℕ) (le : a ≤ n
   pub firstFrom-least : (i : ℕ) → a ≤ i → p (f i) ≡ true → firstFrom p f a n ≤ i
   firstFrom-least i h t =
       ⊎-elim (λ l. absurd (true≢false (sym t ∙ firstFrom-fails i h l))) (λ l. l) (lt-or-le i (firstFrom p f a n))
+
+  pub firstFrom-unique : (i : ℕ) → a ≤ i → i ≤ n → (i < n → p (f i) ≡ true)
+      → ((j : ℕ) → a ≤ j → j < i → p (f j) ≡ false) → i ≡ firstFrom p f a n
+  firstFrom-unique i h k passes fails = by-side (side i (firstFrom p f a n))
+    where
+      by-side : Side i (firstFrom p f a n) → i ≡ firstFrom p f a n
+      by-side (less l) = absurd (true≢false (sym (passes (omega (arith, firstFrom-high))) ∙ firstFrom-fails i h l))
+      by-side (equal e) = e
+      by-side (more l) =
+          absurd (true≢false (sym (firstFrom-passes (omega arith)) ∙ fails (firstFrom p f a n) firstFrom-low l))
 
   pub firstFrom-none : (ltb (firstFrom p f a n) n ≡ false) ↔ ((i : ℕ) → a ≤ i → i < n → p (f i) ≡ false)
   firstFrom-none = (

@@ -18,7 +18,8 @@ use borrow.Author.Tests.{eqb-true, ltb-true, ltb-false, lt-ltb, le-ltb, eq-eqb, 
 use Rattle.counts.specs.Count.{_∈_, ind, count, odd, _⊕_}
 use Rattle.counts.proofs.TestLaws.{and-true, xor-back, Side, less, equal, more, side}
 use Rattle.counts.proofs.SumLaws.{sum-ext, sum-add, sum-mul}
-use Rattle.counts.proofs.CountLaws.{count-ext, count-off, count-le, odd-add}
+use Rattle.counts.proofs.CountLaws.{count-ext, count-off, count-le}
+use Rattle.counts.proofs.ParityLaws.{odd-add}
 use Rattle.counts.proofs.HighestLaws.{Top, highest}
 
 module _ {A : Type 0} (xs : List A) (on : A → Bool) (key : A → ℕ) where

@@ -1,13 +1,13 @@
 -- Laws of tests and of how two numbers lie to each other, for any caller.
 --     tests          for `omega`: a test on numbers that passed or failed is the fact it tests
 --     and-true, and-intro, or-true, or-left, or-right    tests joined by 'and' and 'or'
---     and-comm, is-false, same-test, xor-back, xor-self    of Booleans
+--     and-comm, and-same, is-false, not-true, same-test, xor-back, xor-self    of Booleans
 --     lt-or-le, Side, side                  of two numbers, by cases
---     leb-not, eqb-swap                     of tests on two numbers
+--     leb-not, leb-ltb, eqb-swap            of tests on two numbers
 --     or-is, and-is, ltb-is, leb-is, eqb-is, not-ltb-is    a test, or two joined, and what it tests, both ways
 -- Assumes nothing.
 use mathlib.Core.Path.{_≡_, refl, sym, ap, ap₂, _∙_}
-use mathlib.Core.Logic.{_⊎_, inl, inr, _↔_, ⊎-elim}
+use mathlib.Core.Logic.{_≢_, _⊎_, inl, inr, _↔_, ⊎-elim}
 use mathlib.Core.Bool.{Bool, true, false, not, _&&_, _||_, true≢false}
 use Prim.Native.Nat.{ℕ, _<_, _≤_}
 use native.Mathlib.Decide.{decLt}
@@ -45,9 +45,18 @@ and-comm true false = refl
 and-comm false true = refl
 and-comm false false = refl
 
+-- two tests after a third are one if they agree where that passes
+pub and-same : (a : Bool) {b c : Bool} → (a ≡ true → b ≡ c) → a && b ≡ a && c
+and-same true h = h refl
+and-same false h = refl
+
 pub is-false : (b : Bool) → (b ≡ true → ⊥) → b ≡ false
 is-false true h = absurd (h refl)
 is-false false h = refl
+
+pub not-true : (b : Bool) → not b ≡ true → b ≡ false
+not-true true e = absurd (true≢false (sym e))
+not-true false e = refl
 
 -- two tests that follow from each other are one
 pub same-test : (a b : Bool) → (a ≡ true → b ≡ true) → (b ≡ true → a ≡ true) → a ≡ b
@@ -94,6 +103,12 @@ pub leb-not : (m n : ℕ) → leb m n ≡ not (ltb n m)
 leb-not m n =
     ⊎-elim (λ l. lt-leb m n l ∙ ap not (sym (lt-ltb n m l))) (λ l. le-leb m n l ∙ ap not (sym (le-ltb n m l)))
     (lt-or-le n m)
+
+pub leb-ltb : (m n : ℕ) → m ≢ n → leb m n ≡ ltb m n
+leb-ltb m n h =
+    same-test (leb m n) (ltb m n)
+    (λ e. let l : m ≤ n = leb-true m n e in lt-ltb m n (omega arith))
+    (λ e. let l : m < n = ltb-true m n e in le-leb m n (omega arith))
 
 pub eqb-swap : (m n : ℕ) → eqb m n ≡ eqb n m
 eqb-swap m n =

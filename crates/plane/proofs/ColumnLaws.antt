@@ -44,12 +44,12 @@ reaches-covers x t =
     (λ h. let g = reaches-is (suc x) t .0 h in covers-is x t .1 (omega arith))
     (λ h. let g = covers-is x t .0 h in reaches-is (suc x) t .1 (omega arith))
 
-pub covers-spans : (x : ℕ) (t : Segment) → t .b .x < 65536 → covers x t ≡ true
-    → Spans t (2 * x) × Spans t (2 * x + 1) × Spans t (2 * suc x)
+pub covers-spans : {W : ℕ} (x : ℕ) (t : Segment) → t .b .x < W → covers x t ≡ true
+    → Spans W t (2 * x) × Spans W t (2 * x + 1) × Spans W t (2 * suc x)
 covers-spans x t small h = let g = covers-is x t .0 h in omega arith
 
-pub reaches-spans : (x : ℕ) (t : Segment) → t .b .x < 65536 → reaches x t ≡ true
-    → Spans t (2 * x) × Spans t (2 * x - 1)
+pub reaches-spans : {W : ℕ} (x : ℕ) (t : Segment) → t .b .x < W → reaches x t ≡ true
+    → Spans W t (2 * x) × Spans W t (2 * x - 1)
 reaches-spans x t small h = let g = reaches-is x t .0 h in omega arith
 
 -- ---- what is not counted
@@ -66,17 +66,17 @@ pub belowPoint-uncovered : (p : Point) (t : Segment) → covers (p .x) t ≡ fal
 unfolding belowPoint
 belowPoint-uncovered p t h = rw h
 
-module _ (M : ℕ) (scale : Scale M) where
+module _ {W : ℕ} (M : ℕ) (scale : Scale W M) where
   -- ---- what is counted for a mark
 
-  pub countedFor-slanted : (s t : Segment) → s .a .x < s .b .x → s .b .x < 65536 → t .b .x < 65536
+  pub countedFor-slanted : (s t : Segment) → s .a .x < s .b .x → s .b .x < W → t .b .x < W
       → covers (s .a .x) t ≡ true
       → (countedFor s t ≡ true)
       ↔ ((height M t (2 * s .a .x) < height M s (2 * s .a .x))
       ⊎ ((height M t (2 * s .a .x) ≡ height M s (2 * s .a .x)) × (key M t (s .a .x) ≤ key M s (s .a .x))))
   unfolding countedFor
   countedFor-slanted s t slanted sm tm h =
-      let strip : Spans s (2 * s .a .x + 1) = omega arith in
+      let strip : Spans W s (2 * s .a .x + 1) = omega arith in
       let at = covers-spans (s .a .x) t tm h in
       let start = sym (height-a M scale s slanted sm) in
       rw (ne-eqb (s .a .x) (s .b .x) (omega arith), h)
@@ -84,7 +84,7 @@ module _ (M : ℕ) (scale : Scale M) where
       (and-is _ _ (eqb-is (on-is M scale t (s .a) (at .0) ∙ ap (eqb _) start))
       (λ e. not-ltb-is (level-slopes M scale s t _ strip (at .0) (at .1) (omega arith) e))))
 
-  pub countedFor-vertical : (s t : Segment) → s .a .x ≡ s .b .x → t .b .x < 65536 → reaches (s .a .x) t ≡ true
+  pub countedFor-vertical : (s t : Segment) → s .a .x ≡ s .b .x → t .b .x < W → reaches (s .a .x) t ≡ true
       → (countedFor s t ≡ true) ↔ (height M t (2 * s .a .x) ≤ 2 * M * s .a .y)
   unfolding countedFor
   countedFor-vertical s t upright small h =
@@ -93,12 +93,12 @@ module _ (M : ℕ) (scale : Scale M) where
 
   -- ---- below a point, and the nearest there
 
-  pub belowPoint-is : (p : Point) (t : Segment) → t .b .x < 65536 → covers (p .x) t ≡ true
+  pub belowPoint-is : (p : Point) (t : Segment) → t .b .x < W → covers (p .x) t ≡ true
       → belowPoint p t ≡ ltb (height M t (2 * p .x)) (2 * M * p .y)
   unfolding belowPoint
   belowPoint-is p t small h = rw h (above-is M scale t p (covers-spans (p .x) t small h .0))
 
-  pub higher-is : (x : ℕ) (s t : Segment) → s .b .x < 65536 → t .b .x < 65536
+  pub higher-is : (x : ℕ) (s t : Segment) → s .b .x < W → t .b .x < W
       → covers x s ≡ true → covers x t ≡ true
       → (higher x s t ≡ true)
       ↔ ((height M t (2 * x) < height M s (2 * x)) ⊎ ((s .a ≡ t .a) × (key M t x < key M s x)))

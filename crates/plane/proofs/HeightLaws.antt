@@ -93,9 +93,9 @@ height-straight M s k l m from lo hi upto =
         ≡ j * (q * (s .a .y * gk + s .b .y * f)) + i * (q * (s .a .y * g + s .b .y * fm))
     go q f g i j n fl fm gl gk en el em er ek = rw (en, el, em, er, ek) (omega arith)
 
-module _ (M : ℕ) (scale : Scale M) where
+module _ {W : ℕ} (M : ℕ) (scale : Scale W M) where
   -- a segment at a half column that it spans, in additive form
-  unfoldable read : (s : Segment) (k : ℕ) → Spans s k
+  unfoldable read : (s : Segment) (k : ℕ) → Spans W s k
       → Read s (2 * M) (2 * (s .b .x - s .a .x)) (M / (s .b .x - s .a .x)) k
   read s k h = record {
     i = k - 2 * s .a .x;
@@ -108,7 +108,7 @@ module _ (M : ℕ) (scale : Scale M) where
 
   -- ---- at a column, and at its own ends
 
-  pub height-rise : (s : Segment) (x : ℕ) → Spans s (2 * x) → breadth s * height M s (2 * x) ≡ 2 * M * rise x s
+  pub height-rise : (s : Segment) (x : ℕ) → Spans W s (2 * x) → breadth s * height M s (2 * x) ≡ 2 * M * rise x s
   unfolding height
   height-rise s x h =
       go (s .b .x - s .a .x) (M / (s .b .x - s .a .x)) (s .b .x - x) (x - s .a .x)
@@ -119,7 +119,7 @@ module _ (M : ℕ) (scale : Scale M) where
           → w * (q * (s .a .y * jj + s .b .y * ii)) ≡ 2 * M * (s .a .y * j + s .b .y * i)
       go w q j i jj ii e ej ei = rw (ej, ei) (omega (arith, ap (λ n. 2 * n * (s .a .y * j + s .b .y * i)) e))
 
-  pub height-a : (s : Segment) → s .a .x < s .b .x → s .b .x < 65536 → height M s (2 * s .a .x) ≡ 2 * M * s .a .y
+  pub height-a : (s : Segment) → s .a .x < s .b .x → s .b .x < W → height M s (2 * s .a .x) ≡ 2 * M * s .a .y
   unfolding height
   height-a s h l =
       go (s .b .x - s .a .x) (M / (s .b .x - s .a .x)) (2 * s .b .x - 2 * s .a .x) (2 * s .a .x - 2 * s .a .x)
@@ -128,7 +128,7 @@ module _ (M : ℕ) (scale : Scale M) where
       go : (w q j i : ℕ) → q * w ≡ M → j ≡ 2 * w → i ≡ 0 → q * (s .a .y * j + s .b .y * i) ≡ 2 * M * s .a .y
       go w q j i e g f = rw (g, f) (omega (arith, ap (λ n. 2 * n * s .a .y) e))
 
-  pub height-b : (s : Segment) → s .a .x < s .b .x → s .b .x < 65536 → height M s (2 * s .b .x) ≡ 2 * M * s .b .y
+  pub height-b : (s : Segment) → s .a .x < s .b .x → s .b .x < W → height M s (2 * s .b .x) ≡ 2 * M * s .b .y
   unfolding height
   height-b s h l =
       go (s .b .x - s .a .x) (M / (s .b .x - s .a .x)) (2 * s .b .x - 2 * s .b .x) (2 * s .b .x - 2 * s .a .x)
@@ -139,7 +139,7 @@ module _ (M : ℕ) (scale : Scale M) where
 
   -- ---- common points of two segments
 
-  touch-at : (s t : Segment) (p k u v : ℕ) → Spans s p → Spans s k → Spans t p → Spans t k
+  touch-at : (s t : Segment) (p k u v : ℕ) → Spans W s p → Spans W s k → Spans W t p → Spans W t k
       → u * height M s p + v * height M s k ≡ u * height M t p + v * height M t k
       → 0 < u * (2 * s .b .x - p) + v * (2 * s .b .x - k)
       → 0 < u * (p - 2 * s .a .x) + v * (k - 2 * s .a .x) → Touch s t
@@ -148,11 +148,11 @@ module _ (M : ℕ) (scale : Scale M) where
       meet (read s p sp) (read s k sk) (read t p tp) (read t k tk) u v
       (omega (arith, scale .positive)) e (omega arith) (omega arith) hj hi
 
-  pub touch-level : (s t : Segment) (k : ℕ) → Spans s k → Spans t k → Inside s k → height M s k ≡ height M t k
+  pub touch-level : (s t : Segment) (k : ℕ) → Spans W s k → Spans W t k → Inside s k → height M s k ≡ height M t k
       → Touch s t
   touch-level s t k sk tk inside e = touch-at s t k k 0 1 sk sk tk tk (omega arith) (omega arith) (omega arith)
 
-  pub touch-cross : (s t : Segment) (p k : ℕ) → Spans s p → Spans s k → Spans t p → Spans t k
+  pub touch-cross : (s t : Segment) (p k : ℕ) → Spans W s p → Spans W s k → Spans W t p → Spans W t k
       → height M t p < height M s p → height M s k < height M t k → Touch s t
   touch-cross s t p k sp sk tp tk lp lk =
       let w = change lp lk in
@@ -181,7 +181,7 @@ module _ (M : ℕ) (scale : Scale M) where
       go (inl z) = omega (arith, scale .positive, ap (λ n. n * w) z)
       go (inr h) = h
 
-  pub touch-upright : (s t : Segment) (c : ℕ) → Spans s (2 * c) → Inside s (2 * c)
+  pub touch-upright : (s t : Segment) (c : ℕ) → Spans W s (2 * c) → Inside s (2 * c)
       → t .a .x ≡ c → t .b .x ≡ c → t .a .y < t .b .y
       → 2 * M * t .a .y ≤ height M s (2 * c) → height M s (2 * c) ≤ 2 * M * t .b .y → Touch s t
   unfolding height read
@@ -195,7 +195,7 @@ module _ (M : ℕ) (scale : Scale M) where
   -- ---- where a point lies
 
   -- the height of the point less that of s is a multiple of their turn
-  at-point : (s : Segment) (p : Point) → Spans s (2 * p .x)
+  at-point : (s : Segment) (p : Point) → Spans W s (2 * p .x)
       → breadth s * height M s (2 * p .x) + 2 * M * plus (s .a) (s .b) p
       ≡ breadth s * (2 * M * p .y) + 2 * M * minus (s .a) (s .b) p
   at-point s p h =
@@ -208,7 +208,7 @@ module _ (M : ℕ) (scale : Scale M) where
           → w * H + 2 * M * plus (s .a) (s .b) p ≡ w * (2 * M * p .y) + 2 * M * minus (s .a) (s .b) p
       go w i j H e wide g = omega (arith, ap (λ n. 2 * M * n) g, ap (λ n. 2 * M * n * s .a .y) wide)
 
-  module _ (s : Segment) (p : Point) (h : Spans s (2 * p .x)) where
+  module _ (s : Segment) (p : Point) (h : Spans W s (2 * p .x)) where
     pub above-is : above p s ≡ ltb (height M s (2 * p .x)) (2 * M * p .y)
     unfolding turnsLeft
     above-is = balance-ltb _ (2 * M) _ _ _ _ (omega arith) (omega (arith, scale .positive)) (at-point s p h)

@@ -1,4 +1,5 @@
 -- The order of segments that do not touch: they keep it from column to column.
+--     upright-between      a point of a vertical segment above its lower end and below its upper one is between them
 --     EndAt s k            a point that ends s at half column k, with its height
 --     order-le, order-ge, unlevel, order-lt, order-gt    kept weakly everywhere, strictly inside one of the two
 --     level-end            F2: level at a column that both span, they have a common end there
@@ -27,8 +28,7 @@ use Rattle.plane.proofs.ContactLaws.{touch-sym}
 use Rattle.plane.proofs.CrossLaws.{between-touch}
 use Rattle.plane.proofs.HeightLaws.{height-a, height-b, touch-level, touch-cross, touch-upright}
 
--- a point strictly above the lower end of a vertical segment and strictly below the upper one is between them
-upright-between : (t : Segment) (d : Point) → t .a .x ≡ d .x → t .b .x ≡ d .x
+pub upright-between : (t : Segment) (d : Point) → t .a .x ≡ d .x → t .b .x ≡ d .x
     → t .a .y < d .y → d .y < t .b .y → Between t d
 upright-between t d ea eb lo hi = go (t .b .y - d .y) (d .y - t .a .y) (omega arith) (omega arith)
   where
@@ -48,9 +48,9 @@ pub record EndAt (M : ℕ) (s : Segment) (k : ℕ) : Type 0 where
   pub column : k ≡ 2 * point .x
   pub high : height M s k ≡ 2 * M * point .y
 
-module _ (M : ℕ) (scale : Scale M) where
+module _ {W : ℕ} (M : ℕ) (scale : Scale W M) where
   -- a half column that s spans is inside it, or one of its ends
-  inside-or-end : (s : Segment) (k : ℕ) → Spans s k → Inside s k ⊎ EndAt M s k
+  inside-or-end : (s : Segment) (k : ℕ) → Spans W s k → Inside s k ⊎ EndAt M s k
   inside-or-end s k h = go (side k (2 * s .a .x)) (side k (2 * s .b .x))
     where
       go : Side k (2 * s .a .x) → Side k (2 * s .b .x) → Inside s k ⊎ EndAt M s k
@@ -79,11 +79,11 @@ module _ (M : ℕ) (scale : Scale M) where
   module _ (s t : Segment) (free : ¬ (Touch s t)) where
     -- ---- level at one half column
 
-    pub unlevel : (k : ℕ) → Spans s k → Spans t k → Inside s k ⊎ Inside t k → height M s k ≢ height M t k
+    pub unlevel : (k : ℕ) → Spans W s k → Spans W t k → Inside s k ⊎ Inside t k → height M s k ≢ height M t k
     unlevel k sk tk (inl h) e = free (touch-level M scale s t k sk tk h e)
     unlevel k sk tk (inr h) e = free (touch-sym (touch-level M scale t s k tk sk h (sym e)))
 
-    pub level-end : (k : ℕ) → Spans s k → Spans t k → height M s k ≡ height M t k
+    pub level-end : (k : ℕ) → Spans W s k → Spans W t k → height M s k ≡ height M t k
         → (d : Point) × EndOf s d × EndOf t d × (k ≡ 2 * d .x)
     level-end k sk tk e = go (inside-or-end s k sk) (inside-or-end t k tk)
       where
@@ -97,7 +97,7 @@ module _ (M : ℕ) (scale : Scale M) where
 
     -- ---- from one half column p to another, k
 
-    module _ (p k : ℕ) (sp : Spans s p) (sk : Spans s k) (tp : Spans t p) (tk : Spans t k) where
+    module _ (p k : ℕ) (sp : Spans W s p) (sk : Spans W s k) (tp : Spans W t p) (tk : Spans W t k) where
       pub order-le : height M t p < height M s p → height M t k ≤ height M s k
       order-le l = go (lt-or-le (height M s k) (height M t k))
         where
@@ -158,10 +158,10 @@ module _ (M : ℕ) (scale : Scale M) where
 
     -- ---- over one strip, between the columns x and x + 1
 
-    pub keys-differ : (x : ℕ) → Spans s (2 * x + 1) → Spans t (2 * x + 1) → key M s x ≢ key M t x
+    pub keys-differ : (x : ℕ) → Spans W s (2 * x + 1) → Spans W t (2 * x + 1) → key M s x ≢ key M t x
     keys-differ x sk tk = unlevel (2 * x + 1) sk tk (inl (record { past = omega arith; ahead = omega arith }))
 
-    pub key-order : (x : ℕ) → Spans s (2 * x + 1) → Spans t (2 * x + 1) → key M t x < key M s x
+    pub key-order : (x : ℕ) → Spans W s (2 * x + 1) → Spans W t (2 * x + 1) → key M t x < key M s x
         → (height M t (2 * x) ≤ height M s (2 * x)) × (height M t (2 * suc x) ≤ height M s (2 * suc x))
     key-order x sk tk l = (
       order-le (2 * x + 1) (2 * x) sk (spans s (2 * x) sk (omega arith) (omega arith)) tk
@@ -170,12 +170,12 @@ module _ (M : ℕ) (scale : Scale M) where
           (spans t (2 * suc x) tk (omega arith) (omega arith)) l,
     )
       where
-        spans : (u : Segment) (k : ℕ) → Spans u (2 * x + 1) → 2 * u .a .x ≤ k → k ≤ 2 * u .b .x → Spans u k
+        spans : (u : Segment) (k : ℕ) → Spans W u (2 * x + 1) → 2 * u .a .x ≤ k → k ≤ 2 * u .b .x → Spans W u k
         spans u k h l g = record { slanted = h .slanted; small = h .small; from = l; upto = g }
 
     -- ---- a vertical one
 
-    pub upright-side : (c : ℕ) → Spans s (2 * c) → t .a .x ≡ c → t .b .x ≡ c → t .a .y < t .b .y
+    pub upright-side : (c : ℕ) → Spans W s (2 * c) → t .a .x ≡ c → t .b .x ≡ c → t .a .y < t .b .y
         → ((2 * M * t .b .y ≤ height M s (2 * c)) × (2 * M * t .b .y ≡ height M s (2 * c) → EndOf s (t .b)))
         ⊎ ((height M s (2 * c) ≤ 2 * M * t .a .y) × (height M s (2 * c) ≡ 2 * M * t .a .y → EndOf s (t .a)))
     upright-side c sc ea eb up = go (inside-or-end s (2 * c) sc)

@@ -1,5 +1,6 @@
 -- What the tests on points say, and that `before` orders them.
 --     same-true, same-refl                               `same` is equality
+--     isSegment-true, isSegment-refl                     so is `isSegment`
 --     Before p q, before-true, before-intro              `before` as a statement, both ways
 --     before-irrefl, before-trans, before-once           no point before itself; through a third point; not both ways
 --     trichotomy                                         of two points one is before the other, or they are one
@@ -15,7 +16,8 @@ use native.Mathlib.Omega.{arith}
 use borrow.Author.Tests.{ltb-true, lt-ltb, eqb-true, eq-eqb}
 use Rattle.counts.proofs.TestLaws.{and-true, and-intro, or-true, or-left, or-right, is-false}
 use Rattle.plane.specs.declared.Point.{Point}
-use Rattle.plane.specs.Points.{before, same}
+use Rattle.plane.specs.declared.Segment.{Segment}
+use Rattle.plane.specs.Points.{before, same, isSegment}
 
 pub same-true : (p q : Point) → same p q ≡ true → p ≡ q
 same-true p q e =
@@ -26,6 +28,16 @@ same-true p q e =
 
 pub same-refl : (p : Point) → same p p ≡ true
 same-refl p = and-intro (eq-eqb (p .x) (p .x) refl) (eq-eqb (p .y) (p .y) refl)
+
+pub isSegment-true : (s t : Segment) → isSegment s t ≡ true → t ≡ s
+isSegment-true s t e =
+    let h = and-true _ _ e in
+    let a = same-true _ _ (h .0) in
+    let b = same-true _ _ (h .1) in
+    λ i. record { a = a i; b = b i }
+
+pub isSegment-refl : (s : Segment) → isSegment s s ≡ true
+isSegment-refl s = and-intro (same-refl (s .a)) (same-refl (s .b))
 
 abbrev pub Before : Point → Point → Type 0
 Before p q = (p .x < q .x) ⊎ ((p .x ≡ q .x) × (p .y < q .y))

@@ -17,8 +17,8 @@ use Rattle.plane.specs.Columns.{breadth, rise}
 use Rattle.plane.proofs.Heights.{Scale, Spans, height}
 use Rattle.plane.proofs.HeightLaws.{height-a, height-b, height-straight, height-rise, turn-across, balance-ltb}
 
-module _ (M : ℕ) (scale : Scale M) where
-  pub rise-is : (x : ℕ) (s t : Segment) → Spans s (2 * x) → Spans t (2 * x)
+module _ {W : ℕ} (M : ℕ) (scale : Scale W M) where
+  pub rise-is : (x : ℕ) (s t : Segment) → Spans W s (2 * x) → Spans W t (2 * x)
       → ltb (rise x t * breadth s) (rise x s * breadth t) ≡ ltb (height M t (2 * x)) (height M s (2 * x))
   rise-is x s t sx tx =
       balance-ltb (breadth s * breadth t) (2 * M) _ _ _ _
@@ -30,7 +30,7 @@ module _ (M : ℕ) (scale : Scale M) where
       go w z A B p q e g = omega (arith, ap (λ n. z * n) e, ap (λ n. w * n) g)
 
   -- a segment from a point of it on: what it has gained at k, of what it gains as far as its right end
-  from-point : (s : Segment) (p : Point) (k : ℕ) → Spans s (2 * p .x) → 2 * p .x ≤ k → k ≤ 2 * s .b .x
+  from-point : (s : Segment) (p : Point) (k : ℕ) → Spans W s (2 * p .x) → 2 * p .x ≤ k → k ≤ 2 * s .b .x
       → height M s (2 * p .x) ≡ 2 * M * p .y
       → (s .b .x - p .x) * height M s k + M * (k - 2 * p .x) * p .y
       ≡ (s .b .x - p .x) * (2 * M * p .y) + M * (k - 2 * p .x) * s .b .y
@@ -43,11 +43,11 @@ module _ (M : ℕ) (scale : Scale M) where
           → w * H + M * i * p .y ≡ w * (2 * M * p .y) + M * i * s .b .y
       go w i j n H twice wide mean = omega (arith, ap (λ m. m * H) twice, ap (λ m. M * p .y * m) wide)
 
-  pub level-slopes : (s t : Segment) (k : ℕ) → Spans s k → Spans t (2 * s .a .x) → Spans t k → 2 * s .a .x < k
+  pub level-slopes : (s t : Segment) (k : ℕ) → Spans W s k → Spans W t (2 * s .a .x) → Spans W t k → 2 * s .a .x < k
       → height M t (2 * s .a .x) ≡ height M s (2 * s .a .x) → above (t .b) s ≡ ltb (height M s k) (height M t k)
   unfolding turnsLeft
   level-slopes s t k sk ta tk past e =
-      let sa : Spans s (2 * s .a .x) = omega arith in
+      let sa : Spans W s (2 * s .a .x) = omega arith in
       let start = height-a M scale s (sk .slanted) (sk .small) in
       balance-ltb ((s .b .x - s .a .x) * (t .b .x - s .a .x)) (M * (k - 2 * s .a .x)) _ _ _ _
       (mul-pos (omega arith) (omega arith)) (mul-pos (scale .positive) (omega arith))
@@ -61,7 +61,7 @@ module _ (M : ℕ) (scale : Scale M) where
       go w j n A B y b c P Q hs ht turn =
           omega (arith, ap (λ m. j * m) hs, ap (λ m. w * m) ht, ap (λ m. n * m) turn)
 
-  pub start-slopes : (s t : Segment) (k : ℕ) → Spans s k → Spans t k → 2 * s .a .x < k → s .a ≡ t .a
+  pub start-slopes : (s t : Segment) (k : ℕ) → Spans W s k → Spans W t k → 2 * s .a .x < k → s .a ≡ t .a
       → above (t .b) s ≡ ltb (height M s k) (height M t k)
   start-slopes s t k sk tk past e =
       level-slopes s t k sk (let c = ap (λ p. p .x) e in omega arith) tk past

@@ -1,4 +1,4 @@
--- There is a scale: a factorial, which stays shut, so nothing computes it.
+-- There is a scale for any width: a factorial, which stays shut, so nothing computes it.
 --     unit, unit-scale     the scale that theorems are closed with, and that it is one
 -- Assumes nothing.
 use mathlib.Core.Path.{_≡_, ap}
@@ -31,15 +31,12 @@ factorial-multiple (suc n) d h l = go (lt-or-le n d) (λ l. factorial-multiple n
         let r = ih g in
         (suc n * r .0, omega (arith, ap (λ k. suc n * k) (r .1)))
 
-factorial-scale : (n : ℕ) → 65535 ≤ n → Scale (factorial n)
-factorial-scale n h = record {
-  positive = factorial-positive n;
-  divides = λ d g l. let r = factorial-multiple n d g (omega arith) in rw (← (r .1), mul-div-cancel (r .0) g);
-}
+pub unit : ℕ → ℕ
+unit W = factorial W
 
-pub unit : ℕ
-unit = factorial 65535
-
-pub unit-scale : Scale unit
+pub unit-scale : (W : ℕ) → Scale W (unit W)
 unfolding unit
-unit-scale = factorial-scale 65535 (omega arith)
+unit-scale W = record {
+  positive = factorial-positive W;
+  divides = λ d h l. let r = factorial-multiple W d h (omega arith) in rw (← (r .1), mul-div-cancel (r .0) h);
+}

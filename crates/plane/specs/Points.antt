@@ -2,6 +2,7 @@
 --     before p q     p is the smaller
 --     same p q       they are one point
 --     Forward s      a is the smaller end of s, as of every segment of a chart
+--     isSegment s t  t is the segment s
 -- Assumes nothing.
 use mathlib.Core.Path.{_≡_}
 use mathlib.Core.Bool.{Bool, true, _&&_, _||_}
@@ -17,3 +18,6 @@ same p q = eqb (p .x) (q .x) && eqb (p .y) (q .y)
 
 abbrev pub Forward : Segment → Type 0
 Forward s = before (s .a) (s .b) ≡ true
+
+abbrev pub isSegment : Segment → Segment → Bool
+isSegment s t = same (t .a) (s .a) && same (t .b) (s .b)

@@ -1,6 +1,6 @@
 -- Any two outcomes that one promise allows coincide, for each question. None writes into a lent array, so the answer is
 -- all that is to be settled.
---     same-check, same-point, same-nearest-below, same-area2    the answer
+--     same-check, same-point, same-nearest-below, same-inside-by-mark, same-area2    the answer
 --     same-corner, same-run-at, same-smaller-head               the part: its numbers, the array it lies in, its place
 -- Assumes nothing.
 use mathlib.Core.Path.{sym, _∙_}
@@ -19,6 +19,8 @@ use Rattle.question.proofs.point.Kinds as point-kinds
 use Rattle.question.proofs.point.Reads as point
 use Rattle.question.proofs.nearest_below.Kinds as nearest-below-kinds
 use Rattle.question.proofs.nearest_below.Reads as nearest-below
+use Rattle.question.proofs.inside_by_mark.Kinds as inside-by-mark-kinds
+use Rattle.question.proofs.inside_by_mark.Reads as inside-by-mark
 use Rattle.area.proofs.area2.Kinds as area2-kinds
 use Rattle.area.proofs.area2.Reads as area2
 use Rattle.question.proofs.corner.Kinds as corner-kinds
@@ -41,6 +43,9 @@ same-point κs a v w s t h k = h ∙ sym k
 
 pub same-nearest-below : Settled 1 nearest-below-kinds.ps nearest-below-kinds.r Nearest nearest-below.Post
 same-nearest-below κs a v w s t h k = h ∙ sym k
+
+pub same-inside-by-mark : Settled 1 inside-by-mark-kinds.ps inside-by-mark-kinds.r Place inside-by-mark.Post
+same-inside-by-mark κs a v w s t h k = h ∙ sym k
 
 -- ---- area
 

@@ -2,6 +2,10 @@
 -- never over a program; that each function answers what its definition says is its own contract, proved beside it.
 --     acceptance          demand 2: a chart is accepted exactly when it is a region
 --     point-counted       demand 2: Inside, Outside and Edge follow from the segments counted below a point
+--     nearest-boundary    demand 3, first part: the side mark of the nearest boundary below says what the count says
+--     named-inside, nothing-outside    so where `nearest below` names a record its mark tells Inside from Outside, and
+--                         where it names none the point is Outside
+--     nearest-single      there is one nearest boundary at the most, so its mark is one
 --     corner-run, corner-records    the corner run of a region is its run there: the records at that corner and no
 --                         others
 --     point-refusal, nearest-refusal, area-refusal    demand 1: each question first gives the chart's refusal, and 0
@@ -10,18 +14,21 @@
 -- That any two outcomes of one promise coincide: Outcomes.antt for the questions, LeafOutcomes.antt for the functions
 -- below them. The starred bench examples under a single statement: Examples.antt.
 -- Assumes nothing.
-use mathlib.Core.Path.{_≡_, refl, ap, subst}
+use mathlib.Core.Path.{_≡_, refl, sym, ap, _∙_, subst}
 use mathlib.Core.Logic.{_↔_}
-use mathlib.Core.Bool.{Bool, true, false, cond}
+use mathlib.Core.Bool.{Bool, true, false, cond, true≢false}
 use mathlib.Core.List.{List, []}
-use Prim.Native.Nat.{ℕ, _*_, _<_, _≤_}
+use Prim.Native.Nat.{ℕ, _*_, _<_, _≤_, zero-le}
+use native.Mathlib.Omega.{arith}
 use denote.Ref.{RefT}
-use lib.Dec.{ltb}
+use lib.Dec.{ltb, eqb}
 use lib.IntN.{ℤ}
-use Rattle.counts.specs.Count.{odd}
+use borrow.Author.Tests.{eqb-true, eqb-false}
+use Rattle.counts.specs.Count.{_∈_, odd}
 use Rattle.counts.specs.Scan.{firstFrom}
+use Rattle.counts.proofs.FirstLaws.{mem-listed}
 use Rattle.plane.specs.declared.Point.{Point}
-use Rattle.record.specs.Records.{width, recordAt, recordCount, records}
+use Rattle.record.specs.Records.{width, recordAt, recordCount, records, marked}
 use Rattle.parts.specs.Parts.{Part, atCorner, runStart, runEnd, Run}
 use Rattle.parts.proofs.RunLaws.{run-only, run-all}
 use Rattle.chart.specs.declared.Refusal.{Refusal}
@@ -30,12 +37,18 @@ use Rattle.chart.specs.declared.Verdict.the-variants.{Accepted, Refused}
 use Rattle.chart.specs.Verdicts.{noRefusal, refusalOf, verdict, isAccepted}
 use Rattle.chart.specs.Regions.{Region}
 use Rattle.chart.proofs.RegionLaws.{accepted-is}
+use Rattle.chart.proofs.OnceLaws.{region-place}
+use Rattle.region.specs.Boundaries.{held, below, nearest}
+use Rattle.region.proofs.MarkLaws.{nearest-one}
 use Rattle.area.specs.Areas.{twiceArea, areaRefusal, areaIf, areaOf}
+use Rattle.question.specs.declared.Place.{Place}
 use Rattle.question.specs.declared.Place.the-variants.{Outside, Inside, Edge}
+use Rattle.question.specs.declared.Place.the-variants as place
 use Rattle.question.specs.declared.Nearest.the-variants.{Nothing, At}
-use Rattle.question.specs.Places.{held, below, placeOf, placeIf, placed, placeRefusal}
-use Rattle.question.specs.Places.{nearest, nearestOf, nearestIf, nearestBelow, nearestRefusal}
+use Rattle.question.specs.Places.{byCount, placeOf, placeIf, placed, placeRefusal}
+use Rattle.question.specs.Places.{nearestOf, nearestIf, nearestBelow, nearestRefusal, byMark}
 use Rattle.question.specs.Corners.{Corner}
+use Rattle.question.proofs.ByMarkLaws.{byMark-byCount}
 
 -- ---- demand 2
 
@@ -46,6 +59,53 @@ pub point-counted : (s : List ℤ) (p : Point) → Region s
     → placed s p ≡ cond (held (records s) p) Edge (cond (odd (below (records s) p)) Inside Outside)
 unfolding placed placeOf
 point-counted s p g = ap (λ v. placeIf v (placeOf (records s) p)) (accepted-is s .1 g)
+
+-- ---- demand 3, first part
+
+-- line by line as the demand has it; the law behind it, `byMark-byCount`, asks nothing of the point
+pub nearest-boundary :
+    -- For any accepted chart
+    (s : List ℤ) → verdict s ≡ Accepted
+    -- and any grid point off its boundary,
+    → (p : Point) → held (records s) p ≡ false
+    -- the side mark of the nearest boundary straight below (as document 01 picks it), or Outside where there is none,
+    → byMark s (nearestBelow s p)
+    -- gives the same answer as counting all boundaries below.
+    ≡ byCount (records s) p
+unfolding nearestBelow
+nearest-boundary s e p off =
+    ap (λ v. byMark s (nearestIf v (nearestOf s (recordCount s) p))) e
+    ∙ byMark-byCount s (recordCount s) p (accepted-is s .0 e .sound)
+
+module _ (s : List ℤ) (e : verdict s ≡ Accepted) (p : Point) (off : held (records s) p ≡ false) where
+  by-nearest : placed s p ≡ byMark s (nearestBelow s p)
+  by-nearest =
+      point-counted s p (accepted-is s .0 e) ∙ ap (λ b. cond b Edge (byCount (records s) p)) off
+      ∙ sym (nearest-boundary s e p off)
+
+  pub named-inside : (i : ℕ) → nearestBelow s p ≡ At i → (placed s p ≡ Inside) ↔ (recordAt s i .mark ≡ marked)
+  named-inside i h = rw (by-nearest ∙ ap (byMark s) h) (by-test (eqb (recordAt s i .mark) marked) refl)
+    where
+      inside : Place → Bool
+      inside Outside = false
+      inside Inside = true
+      inside Edge = false
+      inside (place.Refused r) = false
+
+      by-test : (b : Bool) → eqb (recordAt s i .mark) marked ≡ b
+          → (cond b Inside Outside ≡ Inside) ↔ (recordAt s i .mark ≡ marked)
+      by-test true g = ((λ a. eqb-true _ _ g), (λ m. refl))
+      by-test false g = ((λ a. absurd (true≢false (sym (ap inside a)))), (λ m. absurd (eqb-false _ _ g m)))
+
+  pub nothing-outside : nearestBelow s p ≡ Nothing → placed s p ≡ Outside
+  nothing-outside h = by-nearest ∙ ap (byMark s) h
+
+pub nearest-single : (s : List ℤ) (p : Point) → Region s → (i j : ℕ) → i < recordCount s → j < recordCount s
+    → nearest (records s) p (recordAt s i) ≡ true → nearest (records s) p (recordAt s j) ≡ true → i ≡ j
+nearest-single s p g i j l h m n = region-place g i j l h (nearest-one (g .sound) p _ _ (member j h) (member i l) n m)
+  where
+    member : (k : ℕ) → k < recordCount s → recordAt s k ∈ records s
+    member k l = mem-listed (recordAt s) 0 (recordCount s) k zero-le (omega arith)
 
 -- ---- the corner run
 

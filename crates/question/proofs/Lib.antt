@@ -1,2 +1,4 @@
 pub mod PlaceLaws
 pub mod NearestLaws
+pub mod TopsLaws
+pub mod ByMarkLaws

@@ -1,34 +1,32 @@
 -- The nearest below, as a program finds it (specs/Places.antt): from what its loops answer over the first n records.
 --     higherBelow-counted, -uncounted      by whether the record's segment is counted below the point
---     nearest-counted, -uncounted          the same, with the first that is higher
 --     nearestOf-at, nearestOf-nothing      by the first place of the nearest
 --     nearestBelow-accepted, -refused      by the verdict
 -- Assumes nothing.
 use mathlib.Core.Path.{_≡_, sym, ap, _∙_}
-use mathlib.Core.Bool.{Bool, true, false, not, _&&_, cond}
+use mathlib.Core.Bool.{Bool, true, false, _&&_, cond}
 use mathlib.Core.List.{List}
 use Prim.Native.Nat.{ℕ, _<_, _≤_}
-use lib.Dec.{ltb, leb}
+use lib.Dec.{ltb}
 use lib.IntN.{ℤ}
 use borrow.Author.Tests.{lt-ltb, le-ltb}
-use Rattle.counts.specs.Count.{any}
 use Rattle.counts.specs.Scan.{Found}
-use Rattle.counts.proofs.ReadLaws.{found-none}
 use Rattle.plane.specs.declared.Point.{Point}
 use Rattle.plane.specs.declared.Segment.{Segment}
-use Rattle.plane.specs.Columns.{belowPoint, higher}
+use Rattle.plane.specs.Columns.{higher}
 use Rattle.record.specs.declared.Record.{Record}
 use Rattle.record.specs.Records.{recordAt, recordCount, firstRecords}
-use Rattle.segment.specs.Segments.{segment, ofSegment}
+use Rattle.segment.specs.Segments.{segment}
 use Rattle.chart.specs.declared.Refusal.{Refusal}
 use Rattle.chart.specs.declared.Verdict.{Verdict}
 use Rattle.chart.specs.declared.Verdict.the-variants.{Accepted, Refused}
 use Rattle.chart.specs.Verdicts.{verdict}
+use Rattle.region.specs.Boundaries.{counted, higherBelow, nearest}
 use Rattle.question.specs.declared.Nearest.{Nearest}
 use Rattle.question.specs.declared.Nearest.the-variants as near
-use Rattle.question.specs.Places.{higherBelow, nearest, nearestOf, nearestIf, nearestBelow}
+use Rattle.question.specs.Places.{nearestOf, nearestIf, nearestBelow}
 
-module _ (p : Point) (t : Segment) (e : Record) {b : Bool} (h : b ≡ ofSegment (belowPoint p) e) where
+module _ (p : Point) (t : Segment) (e : Record) {b : Bool} (h : b ≡ counted p e) where
   pub higherBelow-counted : {u : Segment} {a : Bool} → b ≡ true → u ≡ segment e → a ≡ higher (p .x) u t
       → a ≡ higherBelow p t e
   higherBelow-counted y d f =
@@ -36,17 +34,6 @@ module _ (p : Point) (t : Segment) (e : Record) {b : Bool} (h : b ≡ ofSegment 
 
   pub higherBelow-uncounted : b ≡ false → b ≡ higherBelow p t e
   higherBelow-uncounted y = y ∙ ap (λ b. b && higher (p .x) (segment e) t) (sym y ∙ h)
-
-module _ (s : List ℤ) (n : ℕ) (p : Point) (r : Record) {b : Bool} (h : b ≡ ofSegment (belowPoint p) r) where
-  pub nearest-counted : {t : Segment} {i : ℕ} → b ≡ true → t ≡ segment r → Found (higherBelow p t) (recordAt s) 0 n i
-      → leb n i ≡ nearest (firstRecords s n) p r
-  nearest-counted {t} y d f =
-      found-none (higherBelow p t) (recordAt s) f
-      ∙ ap (λ t. not (any (higherBelow p t) (firstRecords s n))) d
-      ∙ ap (λ b. b && not (any (higherBelow p (segment r)) (firstRecords s n))) (sym y ∙ h)
-
-  pub nearest-uncounted : b ≡ false → b ≡ nearest (firstRecords s n) p r
-  nearest-uncounted y = y ∙ ap (λ b. b && not (any (higherBelow p (segment r)) (firstRecords s n))) (sym y ∙ h)
 
 module _ (s : List ℤ) (n : ℕ) (p : Point) {i : ℕ} (h : Found (nearest (firstRecords s n) p) (recordAt s) 0 n i) where
   pub nearestOf-at : i < n → near.At i ≡ nearestOf s n p

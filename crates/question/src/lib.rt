@@ -3,18 +3,22 @@
 ghost use mathlib.Core.Path.{_≡_};
 ghost use Prim.Native.Nat.{_+_, _*_, _≤_, _<_};
 ghost use lib.ListN.{length};
+ghost use Rattle.counts.specs.Count.{odd};
 ghost use Rattle.counts.specs.Scan.{Found, Counted};
-ghost use Rattle.plane.specs.Columns.{holds, belowPoint, higher};
+ghost use Rattle.plane.specs.Columns.{holds};
 ghost use Rattle.grid.specs.Coordinates.{pointOf};
 ghost use Rattle.record.specs.Records.{width, recordAt, firstRecords};
 ghost use Rattle.segment.specs.Segments.{ofSegment};
-ghost use Rattle.question.specs.Places.{placeOf, placed, higherBelow, nearest, nearestOf, nearestBelow};
+ghost use Rattle.chart.specs.Regions.{Sound};
+ghost use Rattle.region.specs.Boundaries.{counted, below, higherBelow, nearest};
+ghost use Rattle.question.specs.Places.{placeOf, placed, nearestOf, nearestBelow};
 ghost use Rattle.question.specs.Corners.{Corner};
 use chart::Refusal;
 use chart::Verdict;
 use chart::check;
 use plane::Point;
 use plane::Segment;
+use record::MARKED;
 use record::Record;
 use record::WIDTH;
 use record::record_at;
@@ -56,14 +60,14 @@ fn first_held(s: &[i16], n: usize, p: Point) -> usize
 }
 
 fn is_below(p: Point, e: Record) -> bool
-    ensures { λ b. ⌜ b ≡ ofSegment (belowPoint p) e ⌝ }
+    ensures { λ b. ⌜ b ≡ counted p e ⌝ }
 {
     record::is_left(e) && segment::is_below_point(p, segment::segment_of(e))
 }
 
 fn count_below(s: &[i16], n: usize, p: Point) -> usize
     requires { ⌜ width * n ≤ length (now s) ⌝ }
-    ensures { λ m. ⌜ Counted (ofSegment (belowPoint p)) (recordAt (now (s .entry))) n m ⌝ }
+    ensures { λ m. ⌜ Counted (counted p) (recordAt (now (s .entry))) n m ⌝ }
 {
     let mut i = 0;
     let mut m = 0;
@@ -77,14 +81,22 @@ fn count_below(s: &[i16], n: usize, p: Point) -> usize
     m
 }
 
-fn place_of(s: &[i16], n: usize, p: Point) -> Place
+fn is_odd_below(s: &[i16], n: usize, p: Point) -> bool
     requires { ⌜ width * n ≤ length (now s) ⌝ }
+    ensures { λ b. ⌜ b ≡ odd (below (firstRecords (now (s .entry)) n) p) ⌝ }
+{
+    count_below(s, n, p) % 2 == 1
+}
+
+// Where p lies; `inner` says whether an odd number lies below it.
+fn place_of(s: &[i16], n: usize, p: Point, inner: bool) -> Place
+    requires { ⌜ (width * n ≤ length (now s)) × (inner ≡ odd (below (firstRecords (now s) n) p)) ⌝ }
     ensures { λ a. ⌜ a ≡ placeOf (firstRecords (now (s .entry)) n) p ⌝ }
 {
     if first_held(s, n, p) < n {
         return Place::Edge;
     }
-    if count_below(s, n, p) % 2 == 1 {
+    if inner {
         return Place::Inside;
     }
     Place::Outside
@@ -95,9 +107,10 @@ pub fn point(chart: &[i16], x: i16, y: i16) -> Place
     ensures { λ a. ⌜ a ≡ placed (now (chart .entry)) (pointOf x y) ⌝ }
 {
     let p = grid::point_of(x, y);
+    let n = chart.len() / WIDTH;
     let v = check(chart);
     match v {
-        Verdict::Accepted => place_of(chart, chart.len() / WIDTH, p),
+        Verdict::Accepted => place_of(chart, n, p, is_odd_below(chart, n, p)),
         Verdict::Refused(r) => Place::Refused(r),
     }
 }
@@ -111,14 +124,14 @@ fn is_higher_below(p: Point, t: Segment, e: Record) -> bool
     is_below(p, e) && segment::is_higher(p.x, segment::segment_of(e), t)
 }
 
-fn first_higher_below(s: &[i16], n: usize, p: Point, t: Segment) -> usize
+fn first_below(s: &[i16], n: usize, p: Point) -> usize
     requires { ⌜ width * n ≤ length (now s) ⌝ }
-    ensures { λ r. ⌜ Found (higherBelow p t) (recordAt (now (s .entry))) 0 n r ⌝ }
+    ensures { λ r. ⌜ Found (counted p) (recordAt (now (s .entry))) 0 n r ⌝ }
 {
     let mut i = 0;
     while i < n {
         let e = record_at(s, i);
-        if is_higher_below(p, t, e) {
+        if is_below(p, e) {
             return i;
         }
         i += 1;
@@ -126,30 +139,27 @@ fn first_higher_below(s: &[i16], n: usize, p: Point, t: Segment) -> usize
     n
 }
 
-fn is_nearest(s: &[i16], n: usize, p: Point, r: Record) -> bool
-    requires { ⌜ width * n ≤ length (now s) ⌝ }
-    ensures { λ b. ⌜ b ≡ nearest (firstRecords (now (s .entry)) n) p r ⌝ }
-{
-    is_below(p, r) && n <= first_higher_below(s, n, p, segment::segment_of(r))
-}
-
+// The first record that is nearest below p, n where there is none. Each is compared with the highest so far alone: in a
+// sound chart which of two is higher is an order.
 fn first_nearest(s: &[i16], n: usize, p: Point) -> usize
-    requires { ⌜ width * n ≤ length (now s) ⌝ }
+    requires { ⌜ (width * n ≤ length (now s)) × Sound (firstRecords (now s) n) ⌝ }
     ensures { λ r. ⌜ Found (nearest (firstRecords (now (s .entry)) n) p) (recordAt (now (s .entry))) 0 n r ⌝ }
 {
-    let mut i = 0;
+    let mut top = first_below(s, n, p);
+    let mut i = top;
     while i < n {
-        let r = record_at(s, i);
-        if is_nearest(s, n, p, r) {
-            return i;
+        let t = segment::segment_of(record_at(s, top));
+        let e = record_at(s, i);
+        if is_higher_below(p, t, e) {
+            top = i;
         }
         i += 1;
     }
-    n
+    top
 }
 
 fn nearest_of(s: &[i16], n: usize, p: Point) -> Nearest
-    requires { ⌜ width * n ≤ length (now s) ⌝ }
+    requires { ⌜ (width * n ≤ length (now s)) × Sound (firstRecords (now s) n) ⌝ }
     ensures { λ a. ⌜ a ≡ nearestOf (now (s .entry)) n p ⌝ }
 {
     let i = first_nearest(s, n, p);
@@ -168,6 +178,34 @@ pub fn nearest_below(chart: &[i16], x: i16, y: i16) -> Nearest
     match v {
         Verdict::Accepted => nearest_of(chart, chart.len() / WIDTH, p),
         Verdict::Refused(r) => Nearest::Refused(r),
+    }
+}
+
+// ---- where a point lies, by the mark of the nearest below
+
+// What `is_odd_below` answers, without the count.
+fn is_marked_below(s: &[i16], n: usize, p: Point) -> bool
+    requires { ⌜ (width * n ≤ length (now s)) × Sound (firstRecords (now s) n) ⌝ }
+    ensures { λ b. ⌜ b ≡ odd (below (firstRecords (now (s .entry)) n) p) ⌝ }
+{
+    let i = first_nearest(s, n, p);
+    if i == n {
+        return false;
+    }
+    let r = record_at(s, i);
+    r.mark == MARKED
+}
+
+// What `point` answers, told by the side mark of the nearest boundary below alone.
+pub fn inside_by_mark(chart: &[i16], x: i16, y: i16) -> Place
+    ensures { λ a. ⌜ a ≡ placed (now (chart .entry)) (pointOf x y) ⌝ }
+{
+    let p = grid::point_of(x, y);
+    let n = chart.len() / WIDTH;
+    let v = check(chart);
+    match v {
+        Verdict::Accepted => place_of(chart, n, p, is_marked_below(chart, n, p)),
+        Verdict::Refused(why) => Place::Refused(why),
     }
 }
 

@@ -4,16 +4,15 @@ use Prim.Native.Nat.{_-_, _≤_}
 use borrow.Author.Needs.{needs}
 use Rattle.counts.specs.Scan.{Counted}
 use Rattle.counts.proofs.ReadLaws.{reading}
-use Rattle.plane.specs.Columns.{belowPoint}
 use Rattle.record.specs.Records.{recordAt}
-use Rattle.segment.specs.Segments.{ofSegment}
+use Rattle.region.specs.Boundaries.{counted}
 use Rattle.question.proofs.count_below.Statement.{statement}
 use Rattle.question.proofs.count_below.Tie as tie
 
 ruleset all = (needs, reading)
 
 abbrev Inv-loop : tie.InvT-loop
-Inv-loop s n p i₀ m₀ i m = Counted (ofSegment (belowPoint p)) (recordAt s) i m × (i ≤ n)
+Inv-loop s n p i₀ m₀ i m = Counted (counted p) (recordAt s) i m × (i ≤ n)
 
 abbrev μ-loop : tie.MeasureT-loop
 μ-loop s n p i₀ m₀ i m = n - i

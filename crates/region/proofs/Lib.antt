@@ -1,0 +1,12 @@
+pub mod Charts
+pub mod ChartLaws
+pub mod EndLaws
+pub mod ColumnLemma
+pub mod StripLaws
+pub mod SlantLaws
+pub mod AcrossLaws
+pub mod UprightLaws
+pub mod CornerLaws
+pub mod HigherLaws
+pub mod NearestLaws
+pub mod MarkLaws
