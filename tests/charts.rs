@@ -87,7 +87,7 @@ impl Question {
         for &p in &self.points {
             match &chart {
                 Some(chart) => parts.extend(about(chart, run_at(&self.draft.numbers, p), p, tally)),
-                None => parts.push((format!("point {p:?} refused"), vec![3, 254, 255, 0, 0])),
+                None => parts.push((format!("point {p:?} refused"), vec![3, 3, 254, 255, 0, 0])),
             }
         }
         parts
@@ -100,7 +100,7 @@ fn two(n: usize) -> Vec<u8> {
 }
 
 /// What is answered about a point of a good chart.
-fn about(chart: &Chart, run: &[i16], p: Point, tally: &mut Tally) -> [Part; 3] {
+fn about(chart: &Chart, run: &[i16], p: Point, tally: &mut Tally) -> [Part; 4] {
     let (place, nearest) = (chart.place(p), chart.nearest_below(p));
     tally.places[place as usize] += 1;
     tally.nearest[nearest.map_or(0, |_| chart.level_below(p).min(3))] += 1;
@@ -108,6 +108,7 @@ fn about(chart: &Chart, run: &[i16], p: Point, tally: &mut Tally) -> [Part; 3] {
     let numbers: Vec<u8> = run.iter().flat_map(|&v| count(v)).collect();
     [
         (format!("point {p:?} {place:?}"), vec![place as u8]),
+        (format!("point {p:?} by the nearest's mark {place:?}"), vec![place as u8]),
         (format!("nearest below {p:?} {nearest:?}"), two(nearest.unwrap_or(65535))),
         (format!("run at {p:?} {run:?}"), [two(run.len()), numbers].concat()),
     ]
@@ -142,6 +143,10 @@ fn objection(q: &Question) -> Option<String> {
         let is_made_so = q.draft.pieces.as_ref().is_none_or(|pieces| regions::has(pieces, p) == is_inside);
         if !is_made_so || second::is_inside(&chart, p) != is_inside {
             return Some(format!("the place of {p:?}"));
+        }
+        // demand 3: the side mark of the nearest boundary straight below, or outside where there is none
+        if chart.nearest_below(p).is_some_and(|i| q.draft.numbers[5 * i + 4] == 1) != is_inside {
+            return Some(format!("the mark of the nearest below {p:?}"));
         }
     }
     let made = q.draft.pieces.as_ref().map(|pieces| regions::twice_area(pieces));

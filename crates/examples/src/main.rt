@@ -11,6 +11,7 @@ fn main() {
     about_changed_square();
     about_hole(&square_with_hole());
     about_triangle(&large_triangle());
+    about_wedge(&wedge());
     about_lengths(&row());
     about_zeros(&[0i16; 200000]);
     first_faults();
@@ -45,7 +46,17 @@ fn say_verdict(text: &[u8], s: &[i16]) {
 fn say_place(text: &[u8], s: &[i16], x: i16, y: i16) {
     say(text);
     say(b": ");
-    let a = question::point(s, x, y);
+    say_answer(question::point(s, x, y));
+}
+
+// By the mark of the nearest boundary below.
+fn say_by_mark(text: &[u8], s: &[i16], x: i16, y: i16) {
+    say(text);
+    say(b", by the mark: ");
+    say_answer(question::inside_by_mark(s, x, y));
+}
+
+fn say_answer(a: Place) {
     match a {
         Place::Outside => say(b"Outside\n"),
         Place::Inside => say(b"Inside\n"),
@@ -256,6 +267,42 @@ fn large_triangle() -> [i16; 30] {
     ]
 }
 
+// (0,0), (4,0) and (4,4).
+fn wedge() -> [i16; 30] {
+    [
+        0,
+        0,
+        4,
+        0,
+        1,
+        0,
+        0,
+        4,
+        4,
+        0,
+        4,
+        0,
+        0,
+        0,
+        1,
+        4,
+        0,
+        4,
+        4,
+        1,
+        4,
+        4,
+        0,
+        0,
+        0,
+        4,
+        4,
+        4,
+        0,
+        1,
+    ]
+}
+
 // The square and another from (2,2) to (6,6), which it crosses.
 fn crossing_squares() -> [i16; 80] {
     [
@@ -426,6 +473,10 @@ fn about_square(s: &[i16]) {
         4,
         9,
     );
+    say_by_mark(b"(2,2)", s, 2, 2);
+    say_by_mark(b"(4,2)", s, 4, 2);
+    say_by_mark(b"(0,5), over a vertical side", s, 0, 5);
+    say_by_mark(b"(2,-1)", s, 2, -1);
     say_corner(b"the run at (4,4)", s, 4, 4);
     say_corner(b"the run at (2,0)", s, 2, 0);
 }
@@ -444,6 +495,7 @@ fn about_changed_square() {
 fn about_refused(text: &[u8], s: &[i16]) {
     say_verdict(text, s);
     say_place(b"(2,2) then", s, 2, 2);
+    say_by_mark(b"(2,2) then", s, 2, 2);
     say_nearest(b"nearest below (2,2) then", s, 2, 2);
     say_area(b"twice the area then", s);
     say_corner(b"the run at (4,4) then", s, 4, 4);
@@ -463,6 +515,8 @@ fn about_hole(s: &[i16]) {
     );
     say_nearest(b"nearest below (1,9)", s, 1, 9);
     say_nearest(b"nearest below (1,1)", s, 1, 1);
+    say_by_mark(b"(1,1)", s, 1, 1);
+    say_by_mark(b"(3,3)", s, 3, 3);
     say_corner(b"the run at (0,0)", s, 0, 0);
 }
 
@@ -473,7 +527,19 @@ fn about_triangle(s: &[i16]) {
     say_place(b"(0,0)", s, 0, 0);
     say_place(b"(32767,32767)", s, 32767, 32767);
     say_place(b"(-32768,32767)", s, -32768, 32767);
+    say_by_mark(b"(-1,-1)", s, -1, -1);
+    say_by_mark(b"(0,0)", s, 0, 0);
+    say_by_mark(b"(32767,32767)", s, 32767, 32767);
     say_area(b"twice the area", s);
+}
+
+// Of the two segments that start at (0,0) the one that is higher just to the right tells.
+fn about_wedge(s: &[i16]) {
+    say_verdict(b"the wedge", s);
+    say_nearest(b"nearest below (0,2), over its corner", s, 0, 2);
+    say_place(b"(0,2)", s, 0, 2);
+    say_by_mark(b"(0,2)", s, 0, 2);
+    say_by_mark(b"(3,2)", s, 3, 2);
 }
 
 // ---- how long an array may be

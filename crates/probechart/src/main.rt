@@ -5,6 +5,7 @@
 // The answer is the verdict on the chart, its number, one byte, and its index, two bytes; twice its area, eight bytes,
 // as two's complement has it, zero where the chart is refused; then of each point
 //     its place         one byte: 0 Outside, 1 Inside, 2 Edge, 3 where the chart is refused
+//     the same again    one byte, as the nearest boundary's mark tells it
 //     the nearest below two bytes: its record's index; 65,535 where there is none, 65,534 where the chart is refused
 //     the run there     its length, two bytes, and its numbers
 // Everything is written lowest byte first, like the numbers.
@@ -155,13 +156,13 @@ fn say_points(chart: &[i16], s: &[u8], from: usize, k: usize)
 }
 
 fn say_point(chart: &[i16], x: i16, y: i16) {
-    say_place(chart, x, y);
+    say_place(question::point(chart, x, y));
+    say_place(question::inside_by_mark(chart, x, y));
     say_nearest(chart, x, y);
     say_part(question::corner(chart, x, y));
 }
 
-fn say_place(chart: &[i16], x: i16, y: i16) {
-    let a = question::point(chart, x, y);
+fn say_place(a: Place) {
     match a {
         Place::Outside => say_byte(0),
         Place::Inside => say_byte(1),

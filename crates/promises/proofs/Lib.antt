@@ -3,3 +3,4 @@ pub mod Promises
 pub mod Outcomes
 pub mod LeafOutcomes
 pub mod Examples
+pub mod Slips
