@@ -8,45 +8,39 @@
 --     nearest-single      there is one nearest boundary at the most, so its mark is one
 --     corner-run, corner-records    the corner run of a region is its run there: the records at that corner and no
 --                         others
---     point-refusal, nearest-refusal, area-refusal    demand 1: each question first gives the chart's refusal, and 0
---                         where it is answered
---     corner-refused      the corner run gives no number: of a refused chart it is empty
--- That any two outcomes of one promise coincide: Outcomes.antt for the questions, LeafOutcomes.antt for the functions
--- below them. The starred bench examples under a single statement: Examples.antt.
+-- Demand 1, that each question first gives the chart's refusal: Refusals.antt. That any two outcomes of one promise
+-- coincide: Outcomes.antt for the questions, LeafOutcomes.antt for the functions below them. The starred bench examples
+-- under a single statement: Examples.antt. What goes wrong where a rule of counting is dropped: Slips.antt.
 -- Assumes nothing.
 use mathlib.Core.Path.{_≡_, refl, sym, ap, _∙_, subst}
 use mathlib.Core.Logic.{_↔_}
 use mathlib.Core.Bool.{Bool, true, false, cond, true≢false}
-use mathlib.Core.List.{List, []}
+use mathlib.Core.List.{List}
 use Prim.Native.Nat.{ℕ, _*_, _<_, _≤_, zero-le}
 use native.Mathlib.Omega.{arith}
 use denote.Ref.{RefT}
-use lib.Dec.{ltb, eqb}
+use lib.Dec.{eqb}
 use lib.IntN.{ℤ}
 use borrow.Author.Tests.{eqb-true, eqb-false}
 use Rattle.counts.specs.Count.{_∈_, odd}
-use Rattle.counts.specs.Scan.{firstFrom}
 use Rattle.counts.proofs.FirstLaws.{mem-listed}
 use Rattle.plane.specs.declared.Point.{Point}
 use Rattle.record.specs.Records.{width, recordAt, recordCount, records, marked}
 use Rattle.parts.specs.Parts.{Part, atCorner, runStart, runEnd, Run}
 use Rattle.parts.proofs.RunLaws.{run-only, run-all}
-use Rattle.chart.specs.declared.Refusal.{Refusal}
-use Rattle.chart.specs.declared.Verdict.{Verdict}
-use Rattle.chart.specs.declared.Verdict.the-variants.{Accepted, Refused}
-use Rattle.chart.specs.Verdicts.{noRefusal, refusalOf, verdict, isAccepted}
+use Rattle.chart.specs.declared.Verdict.the-variants.{Accepted}
+use Rattle.chart.specs.Verdicts.{verdict, isAccepted}
 use Rattle.chart.specs.Regions.{Region}
 use Rattle.chart.proofs.RegionLaws.{accepted-is}
 use Rattle.chart.proofs.OnceLaws.{region-place}
 use Rattle.region.specs.Boundaries.{held, below, nearest}
 use Rattle.region.proofs.MarkLaws.{nearest-one}
-use Rattle.area.specs.Areas.{twiceArea, areaRefusal, areaIf, areaOf}
 use Rattle.question.specs.declared.Place.{Place}
 use Rattle.question.specs.declared.Place.the-variants.{Outside, Inside, Edge}
 use Rattle.question.specs.declared.Place.the-variants as place
 use Rattle.question.specs.declared.Nearest.the-variants.{Nothing, At}
-use Rattle.question.specs.Places.{byCount, placeOf, placeIf, placed, placeRefusal}
-use Rattle.question.specs.Places.{nearestOf, nearestIf, nearestBelow, nearestRefusal, byMark}
+use Rattle.question.specs.Places.{byCount, placeOf, placeIf, placed}
+use Rattle.question.specs.Places.{nearestOf, nearestIf, nearestBelow, byMark}
 use Rattle.question.specs.Corners.{Corner}
 use Rattle.question.proofs.ByMarkLaws.{byMark-byCount}
 
@@ -119,44 +113,3 @@ corner-run s p r g h = subst (RunIf s p r) (ap isAccepted (accepted-is (s .now) 
 pub corner-records : (s : List ℤ) (p : Point) (i : ℕ) → Region s → i < recordCount s
     → (atCorner p (recordAt s i) ≡ true) ↔ ((runStart s p ≤ width * i) × (width * i < runEnd s p))
 corner-records s p i g l = ((λ e. run-all s p (g .ordered) i l e), (λ h. run-only s p i (h .0) (h .1)))
-
-pub corner-refused : (s : RefT (List ℤ)) (p : Point) (r : RefT (List ℤ)) (q : Refusal) → verdict (s .now) ≡ Refused q
-    → Corner s p r → r .now ≡ []
-corner-refused s p r q e h = subst (RunIf s p r) (ap isAccepted e) h .numbers
-
--- ---- demand 1
-
-pub point-refusal : (s : List ℤ) (p : Point) → placeRefusal (placed s p) ≡ refusalOf (verdict s)
-unfolding placed placeOf
-point-refusal s p = by-verdict (verdict s)
-  where
-    answered : (h o : Bool) → placeRefusal (cond h Edge (cond o Inside Outside)) ≡ noRefusal
-    answered true o = refl
-    answered false true = refl
-    answered false false = refl
-
-    by-verdict : (v : Verdict) → placeRefusal (placeIf v (placeOf (records s) p)) ≡ refusalOf v
-    by-verdict Accepted = answered (held (records s) p) (odd (below (records s) p))
-    by-verdict (Refused r) = refl
-
-pub nearest-refusal : (s : List ℤ) (p : Point) → nearestRefusal (nearestBelow s p) ≡ refusalOf (verdict s)
-unfolding nearestBelow nearestOf
-nearest-refusal s p = by-verdict (verdict s)
-  where
-    answered : (b : Bool) (i : ℕ) → nearestRefusal (cond b (At i) Nothing) ≡ noRefusal
-    answered true i = refl
-    answered false i = refl
-
-    by-verdict : (v : Verdict) → nearestRefusal (nearestIf v (nearestOf s (recordCount s) p)) ≡ refusalOf v
-    by-verdict Accepted =
-        let i = firstFrom (nearest (records s) p) (recordAt s) 0 (recordCount s) in
-        answered (ltb i (recordCount s)) i
-    by-verdict (Refused r) = refl
-
-pub area-refusal : (s : List ℤ) → areaRefusal (areaOf s) ≡ refusalOf (verdict s)
-unfolding areaOf
-area-refusal s = by-verdict (verdict s)
-  where
-    by-verdict : (v : Verdict) → areaRefusal (areaIf v (twiceArea (records s))) ≡ refusalOf v
-    by-verdict Accepted = refl
-    by-verdict (Refused r) = refl

@@ -1,4 +1,4 @@
-// Questions about a chart: where a point lies, which segment is nearest below it, the run at a corner, twice the area.
+// Questions about a chart: where a point lies, which segment is nearest below it, the run at a corner.
 // Each judges the chart first and hands a refusal on; callers check nothing.
 ghost use mathlib.Core.Path.{_≡_};
 ghost use Prim.Native.Nat.{_+_, _*_, _≤_, _<_};
