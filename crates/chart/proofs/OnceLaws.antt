@@ -14,7 +14,7 @@ use native.Mathlib.Omega.{arith}
 use lib.IntN.{ℤ}
 use Rattle.counts.specs.Count.{_∈_, count}
 use Rattle.counts.proofs.TestLaws.{Side, less, equal, more, side}
-use Rattle.counts.proofs.FirstLaws.{mem-listed}
+use Rattle.counts.proofs.ListedLaws.{mem-listed}
 use Rattle.counts.proofs.AscendingLaws.{Ascending, rising, listed-ascending, once}
 use Rattle.record.specs.declared.Record.{Record}
 use Rattle.record.specs.Records.{recordAt, recordCount, records}

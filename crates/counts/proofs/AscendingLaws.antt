@@ -17,7 +17,7 @@ use native.Mathlib.Omega.{arith}
 use Rattle.counts.specs.Count.{_∈_, ind, sum, count, listed}
 use Rattle.counts.proofs.TestLaws.{is-false}
 use Rattle.counts.proofs.CountLaws.{count-off, count-some}
-use Rattle.counts.proofs.FirstLaws.{listed-mem}
+use Rattle.counts.proofs.ListedLaws.{listed-mem}
 
 module _ {A : Type 0} (lt : A → A → Type 0) where
   abbrev pub Ascending : List A → Type 0

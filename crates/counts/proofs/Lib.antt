@@ -4,6 +4,7 @@ pub mod CountLaws
 pub mod MapLaws
 pub mod ParityLaws
 pub mod FirstLaws
+pub mod ListedLaws
 pub mod FibreLaws
 pub mod HighestLaws
 pub mod AscendingLaws

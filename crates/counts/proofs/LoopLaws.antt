@@ -14,7 +14,7 @@ use native.Mathlib.Omega.{arith}
 use Rattle.counts.specs.Count.{ind, sum, count, listed}
 use Rattle.counts.specs.Scan.{firstFrom, Found, Counted, Summed}
 use Rattle.counts.proofs.SumLaws.{sum-append}
-use Rattle.counts.proofs.FirstLaws.{listed-snoc}
+use Rattle.counts.proofs.ListedLaws.{listed-snoc}
 use Rattle.counts.proofs.ScanLaws.{firstFrom-end, firstFrom-hit, firstFrom-miss}
 
 pub record Seen {A : Type 0} (p : A → Bool) (f : ℕ → A) (a n i : ℕ) : Type 0 where

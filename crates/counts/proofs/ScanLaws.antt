@@ -16,7 +16,7 @@ use Rattle.counts.specs.Count.{_∈_, any, firstIndex, listed}
 use Rattle.counts.specs.Scan.{firstFrom}
 use Rattle.counts.proofs.TestLaws.{is-false, same-test, lt-or-le, Side, less, equal, more, side}
 use Rattle.counts.proofs.FirstLaws.{firstIndex-most, firstIndex-passes, firstIndex-fails}
-use Rattle.counts.proofs.FirstLaws.{listed-length, listed-at, listed-mem, mem-listed}
+use Rattle.counts.proofs.ListedLaws.{listed-length, listed-at, listed-mem, mem-listed}
 use Rattle.counts.proofs.HighestLaws.{any-member}
 
 module _ {A : Type 0} (p : A → Bool) (f : ℕ → A) where

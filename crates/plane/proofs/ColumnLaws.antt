@@ -27,7 +27,8 @@ use Rattle.plane.specs.Points.{same}
 use Rattle.plane.specs.Columns.{covers, reaches, belowPoint, countedFor, higher}
 use Rattle.plane.proofs.Heights.{Scale, Spans, height, key}
 use Rattle.plane.proofs.PointLaws.{same-true, same-refl}
-use Rattle.plane.proofs.HeightLaws.{height-a, above-is, on-is, below-is}
+use Rattle.plane.proofs.HeightLaws.{height-a}
+use Rattle.plane.proofs.AboveLaws.{above-is, on-is, below-is}
 use Rattle.plane.proofs.RiseLaws.{rise-is, level-slopes, start-slopes}
 
 -- ---- the columns of a segment

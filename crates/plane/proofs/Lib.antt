@@ -6,13 +6,17 @@ pub mod RangeLaws
 pub mod ScaleLaws
 pub mod MeetLaws
 pub mod HeightLaws
+pub mod LevelLaws
+pub mod AboveLaws
 pub mod SideLaws
 pub mod WithinLaws
 pub mod ContactLaws
 pub mod CrossLaws
 pub mod SharedLaws
 pub mod TouchLaws
+pub mod SpanLaws
 pub mod OrderLaws
+pub mod VerticalLaws
 pub mod RiseLaws
 pub mod ColumnLaws
 pub mod TouchExamples

@@ -15,7 +15,8 @@ use Rattle.plane.specs.Turns.{turnsLeft}
 use Rattle.plane.specs.Sides.{above}
 use Rattle.plane.specs.Columns.{breadth, rise}
 use Rattle.plane.proofs.Heights.{Scale, Spans, height}
-use Rattle.plane.proofs.HeightLaws.{height-a, height-b, height-straight, height-rise, turn-across, balance-ltb}
+use Rattle.plane.proofs.HeightLaws.{height-a, height-b, height-straight, height-rise}
+use Rattle.plane.proofs.AboveLaws.{turn-across, balance-ltb}
 
 module _ {W : ℕ} (M : ℕ) (scale : Scale W M) where
   pub rise-is : (x : ℕ) (s t : Segment) → Spans W s (2 * x) → Spans W t (2 * x)

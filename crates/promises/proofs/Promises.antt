@@ -23,7 +23,7 @@ use lib.Dec.{eqb}
 use lib.IntN.{ℤ}
 use borrow.Author.Tests.{eqb-true, eqb-false}
 use Rattle.counts.specs.Count.{_∈_, odd}
-use Rattle.counts.proofs.FirstLaws.{mem-listed}
+use Rattle.counts.proofs.ListedLaws.{mem-listed}
 use Rattle.plane.specs.declared.Point.{Point}
 use Rattle.record.specs.Records.{width, recordAt, recordCount, records, marked}
 use Rattle.parts.specs.Parts.{Part, atCorner, runStart, runEnd, Run}

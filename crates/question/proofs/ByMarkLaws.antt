@@ -13,7 +13,7 @@ use lib.IntN.{ℤ}
 use borrow.Author.Tests.{ltb-true, ltb-false, le-ltb}
 use Rattle.counts.specs.Count.{any, odd}
 use Rattle.counts.specs.Scan.{firstFrom, Found}
-use Rattle.counts.proofs.FirstLaws.{mem-listed}
+use Rattle.counts.proofs.ListedLaws.{mem-listed}
 use Rattle.counts.proofs.HighestLaws.{any-none}
 use Rattle.counts.proofs.ScanLaws.{firstFrom-high}
 use Rattle.counts.proofs.ReadLaws.{found-passes, found-any}

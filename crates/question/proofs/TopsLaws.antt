@@ -17,7 +17,7 @@ use borrow.Author.Tests.{ltb-true, ltb-false, lt-ltb, le-ltb}
 use Rattle.counts.specs.Count.{_∈_}
 use Rattle.counts.specs.Scan.{Found}
 use Rattle.counts.proofs.TestLaws.{and-true, and-intro, is-false, not-true}
-use Rattle.counts.proofs.FirstLaws.{listed-mem, mem-listed}
+use Rattle.counts.proofs.ListedLaws.{listed-mem, mem-listed}
 use Rattle.counts.proofs.HighestLaws.{any-none}
 use Rattle.counts.proofs.ScanLaws.{firstFrom-unique}
 use Rattle.counts.proofs.TopmostLaws.{Topmost, topmost-start, topmost-keep, topmost-take}

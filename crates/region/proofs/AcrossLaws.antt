@@ -19,7 +19,7 @@ use Rattle.plane.specs.Touching.{Touch}
 use Rattle.plane.proofs.PointLaws.{isSegment-refl}
 use Rattle.plane.proofs.ContactLaws.{touch-sym}
 use Rattle.plane.proofs.CrossLaws.{between-touch}
-use Rattle.plane.proofs.OrderLaws.{upright-between}
+use Rattle.plane.proofs.VerticalLaws.{upright-between}
 use Rattle.region.proofs.Charts.{Clear, SoundChart, across}
 
 -- two vertical segments on one column that share more than an end: an end of one lies between the ends of the other,

@@ -21,7 +21,7 @@ use Rattle.plane.specs.Columns.{vertical}
 use Rattle.plane.proofs.Heights.{Scale}
 use Rattle.plane.proofs.PointLaws.{Before, before-true}
 use Rattle.plane.proofs.WithinLaws.{within-is}
-use Rattle.plane.proofs.OrderLaws.{upright-between}
+use Rattle.plane.proofs.VerticalLaws.{upright-between}
 use Rattle.region.proofs.Charts.{SoundChart, fromLeft, toRight, across, endsUp, startsUp}
 use Rattle.region.proofs.ColumnLemma.{column}
 use Rattle.region.proofs.AcrossLaws.{across-is, across-most}

@@ -24,7 +24,7 @@ use Rattle.plane.specs.Touching.{Touch}
 use Rattle.plane.specs.Columns.{covers}
 use Rattle.plane.proofs.Heights.{Scale, Spans, Inside, height, key}
 use Rattle.plane.proofs.PointLaws.{isSegment-true, isSegment-refl}
-use Rattle.plane.proofs.HeightLaws.{touch-upright}
+use Rattle.plane.proofs.LevelLaws.{touch-upright}
 use Rattle.plane.proofs.OrderLaws.{same-order, keys-differ}
 use Rattle.plane.proofs.ColumnLaws.{covers-is, covers-spans, reaches-covers}
 use Rattle.region.proofs.Charts.{EvenChart, Clear, fromLeft, toRight, across, under, upTo}

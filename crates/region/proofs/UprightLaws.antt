@@ -23,7 +23,7 @@ use Rattle.plane.specs.Columns.{reaches, countedFor}
 use Rattle.plane.proofs.Heights.{Scale, Spans, height}
 use Rattle.plane.proofs.PointLaws.{isSegment-true, isSegment-refl}
 use Rattle.plane.proofs.ContactLaws.{touch-sym}
-use Rattle.plane.proofs.OrderLaws.{upright-side}
+use Rattle.plane.proofs.VerticalLaws.{upright-side}
 use Rattle.plane.proofs.ColumnLaws.{reaches-spans, countedFor-vertical, countedFor-unreached}
 use Rattle.region.proofs.Charts.{EvenChart, Clear, upper, lower, fromLeft, toRight, across}
 use Rattle.region.proofs.ColumnLemma.{column}
