@@ -1,13 +1,17 @@
 -- Any two outcomes that one promise allows coincide, for each question. None writes into a lent array, so the answer is
 -- all that is to be settled.
 --     same-check, same-point, same-nearest-below, same-inside-by-mark, same-area2    the answer
+--     point-by-mark     and what `point` and `inside_by_mark` answer is one
 --     same-corner, same-run-at, same-smaller-head               the part: its numbers, the array it lies in, its place
 -- Assumes nothing.
-use mathlib.Core.Path.{sym, _∙_}
+use mathlib.Core.Path.{_≡_, sym, _∙_}
 use mathlib.Core.List.{List}
 use Prim.Native.Nat.{ℕ}
 use denote.Ref.{RefT}
 use lib.IntN.{ℤ}
+use contract.Lifetimes.{Lfts}
+use denote.Triple.Clauses.{AtExit}
+use borrow.Fn.Kinds.{endedOf, Dens}
 use Rattle.chart.specs.declared.Verdict.{Verdict}
 use Rattle.question.specs.declared.Place.{Place}
 use Rattle.question.specs.declared.Nearest.{Nearest}
@@ -43,6 +47,11 @@ same-point κs a v w s t h k = h ∙ sym k
 
 pub same-nearest-below : Settled 1 nearest-below-kinds.ps nearest-below-kinds.r Nearest nearest-below.Post
 same-nearest-below κs a v w s t h k = h ∙ sym k
+
+pub point-by-mark : (κs : Lfts 1) (a : Dens κs point-kinds.ps) (v w : Place)
+    (s t : AtExit (endedOf 1 point-kinds.ps point-kinds.r) κs)
+    → point.Post κs a v s → inside-by-mark.Post κs a w t → v ≡ w
+point-by-mark κs a v w s t h k = h ∙ sym k
 
 pub same-inside-by-mark : Settled 1 inside-by-mark-kinds.ps inside-by-mark-kinds.r Place inside-by-mark.Post
 same-inside-by-mark κs a v w s t h k = h ∙ sym k

@@ -40,7 +40,7 @@ use Rattle.question.specs.declared.Place.the-variants.{Outside, Inside, Edge}
 use Rattle.question.specs.declared.Place.the-variants as place
 use Rattle.question.specs.declared.Nearest.the-variants.{Nothing, At}
 use Rattle.question.specs.Places.{byCount, placeOf, placeIf, placed}
-use Rattle.question.specs.Places.{nearestOf, nearestIf, nearestBelow, byMark}
+use Rattle.question.specs.Nearests.{nearestOf, nearestIf, nearestBelow, byMark}
 use Rattle.question.specs.Corners.{Corner}
 use Rattle.question.proofs.ByMarkLaws.{byMark-byCount}
 

@@ -23,7 +23,7 @@ use Rattle.area.specs.Areas.{twiceArea, areaRefusal, areaIf, areaOf}
 use Rattle.question.specs.declared.Place.the-variants.{Outside, Inside, Edge}
 use Rattle.question.specs.declared.Nearest.the-variants.{Nothing, At}
 use Rattle.question.specs.Places.{placeOf, placeIf, placed, placeRefusal}
-use Rattle.question.specs.Places.{nearestOf, nearestIf, nearestBelow, nearestRefusal}
+use Rattle.question.specs.Nearests.{nearestOf, nearestIf, nearestBelow, nearestRefusal}
 use Rattle.question.specs.Corners.{Corner}
 
 pub point-refusal : (s : List ℤ) (p : Point) → placeRefusal (placed s p) ≡ refusalOf (verdict s)

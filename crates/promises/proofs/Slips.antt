@@ -75,7 +75,7 @@ pub record Slips : Type 0 where
   pub square-accepted : verdict square ≡ Accepted
   pub over-outside : placed square (pointOf (pos 0) (pos 5)) ≡ Outside
   pub with-verticals-odd : odd (count (ofSegment (withVerticals (pointOf (pos 0) (pos 5)))) (records square)) ≡ true
-  pub triangle-accepted : verdict wedge ≡ Accepted
+  pub wedge-accepted : verdict wedge ≡ Accepted
   pub left-outside : placed wedge (pointOf (pos 0) (pos 2)) ≡ Outside
   pub any-highest : anyHighest (records wedge) (pointOf (pos 0) (pos 2)) (recordAt wedge 0) ≡ true
   pub any-marked : recordAt wedge 0 .mark ≡ marked
@@ -91,7 +91,7 @@ slips = record {
   square-accepted = refl;
   over-outside = refl;
   with-verticals-odd = refl;
-  triangle-accepted = refl;
+  wedge-accepted = refl;
   left-outside = refl;
   any-highest = refl;
   any-marked = refl;

@@ -1,4 +1,4 @@
--- Where a point lies, told by the mark of the nearest segment below it (specs/Places.antt), in a sound chart.
+-- Where a point lies, told by the mark of the nearest segment below it (specs/Nearests.antt), in a sound chart.
 --     below-named, below-nothing    the parity of the number below, by the first record that is nearest: its mark; even
 --                                   where there is none
 --     byMark-byCount                so the mark says what the count says, or Outside where there is nothing below
@@ -25,7 +25,8 @@ use Rattle.region.specs.Boundaries.{below, nearest}
 use Rattle.region.proofs.MarkLaws.{nearest-mark, nearest-none}
 use Rattle.question.specs.declared.Place.the-variants as place
 use Rattle.question.specs.declared.Nearest.the-variants as near
-use Rattle.question.specs.Places.{byCount, nearestOf, byMark}
+use Rattle.question.specs.Places.{byCount}
+use Rattle.question.specs.Nearests.{nearestOf, byMark}
 
 module _ (s : List ℤ) (n : ℕ) (p : Point) (sound : Sound (firstRecords s n)) where
   module _ {k : ℕ} (near : Found (nearest (firstRecords s n) p) (recordAt s) 0 n k) where

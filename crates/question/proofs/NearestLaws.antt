@@ -1,4 +1,4 @@
--- The nearest below, as a program finds it (specs/Places.antt): from what its loops answer over the first n records.
+-- The nearest below, as a program finds it (specs/Nearests.antt): from what its loops answer over the first n records.
 --     higherBelow-counted, -uncounted      by whether the record's segment is counted below the point
 --     nearestOf-at, nearestOf-nothing      by the first place of the nearest
 --     nearestBelow-accepted, -refused      by the verdict
@@ -24,7 +24,7 @@ use Rattle.chart.specs.Verdicts.{verdict}
 use Rattle.region.specs.Boundaries.{counted, higherBelow, nearest}
 use Rattle.question.specs.declared.Nearest.{Nearest}
 use Rattle.question.specs.declared.Nearest.the-variants as near
-use Rattle.question.specs.Places.{nearestOf, nearestIf, nearestBelow}
+use Rattle.question.specs.Nearests.{nearestOf, nearestIf, nearestBelow}
 
 module _ (p : Point) (t : Segment) (e : Record) {b : Bool} (h : b ≡ counted p e) where
   pub higherBelow-counted : {u : Segment} {a : Bool} → b ≡ true → u ≡ segment e → a ≡ higher (p .x) u t

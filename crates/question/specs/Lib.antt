@@ -1,2 +1,3 @@
 pub mod Places
+pub mod Nearests
 pub mod Corners
