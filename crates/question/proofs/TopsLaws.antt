@@ -2,8 +2,8 @@
 -- of two segments is higher is an order, by their peaks (region's MarkLaws.antt), so one comparison a record is enough.
 --     Tops s n p i b           what it holds on its way: of the first i records that are counted below p, the first of
 --                              the highest stands at b
---     tops-start               at its first step
---     tops-take, tops-keep     from step to step, as the program finds record i higher or not
+--     tops-take, tops-keep     from step to step, as the program finds record i higher or not (at its first step:
+--                              `topmost-start` of counts' TopmostLaws.antt)
 --     tops-nearest             at its end: the first that is nearest
 -- Assumes nothing.
 use mathlib.Core.Path.{_≡_, sym, ap, ap₂, _∙_}
@@ -20,7 +20,7 @@ use Rattle.counts.proofs.TestLaws.{and-true, and-intro, is-false, not-true}
 use Rattle.counts.proofs.ListedLaws.{listed-mem, mem-listed}
 use Rattle.counts.proofs.HighestLaws.{any-none}
 use Rattle.counts.proofs.ScanLaws.{firstFrom-unique}
-use Rattle.counts.proofs.TopmostLaws.{Topmost, topmost-start, topmost-keep, topmost-take}
+use Rattle.counts.proofs.TopmostLaws.{Topmost, topmost-keep, topmost-take}
 use Rattle.plane.specs.declared.Point.{Point}
 use Rattle.plane.specs.declared.Segment.{Segment}
 use Rattle.record.specs.declared.Record.{Record}
@@ -42,9 +42,6 @@ module _ (s : List ℤ) (n : ℕ) (p : Point) where
 
   abbrev pub Tops : ℕ → ℕ → Type 0
   Tops i b = Topmost (counted p) (peak (firstRecords s n) p) (recordAt s) n i b
-
-  pub tops-start : {b : ℕ} → Found (counted p) (recordAt s) 0 n b → Tops b b
-  tops-start h = topmost-start h
 
   module _ (sound : Sound (firstRecords s n)) where
     member : (i : ℕ) → i < n → recordAt s i ∈ firstRecords s n

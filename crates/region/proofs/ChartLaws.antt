@@ -5,7 +5,7 @@
 --     upperSide-is, lowerSide-is     the two sides of a segment over the records are those over the segments
 --     room rs                        a column past every one of them
 --     sound-chart                    the segments of a sound chart are a `SoundChart`
---     region-single                  those of a region are there once each
+--     region-single                  no segment is twice among those of a region
 -- Assumes nothing.
 use mathlib.Core.Path.{_≡_, refl, sym, ap, ap₂, _∙_}
 use mathlib.Core.Logic.{_⊎_, inl, inr}
@@ -17,7 +17,8 @@ use lib.IntN.{ℤ}
 use Rattle.counts.specs.Count.{_∈_, sum, count, keep, any, odd, _⊕_}
 use Rattle.counts.proofs.TestLaws.{and-true}
 use Rattle.counts.proofs.SumLaws.{sum-member}
-use Rattle.counts.proofs.CountLaws.{count-le, count-keep, keep-mem, mem-keep, any-keep}
+use Rattle.counts.proofs.CountLaws.{count-off, count-le, count-keep, keep-mem, mem-keep, any-keep}
+use Rattle.counts.proofs.HighestLaws.{Top, highest}
 use Rattle.counts.proofs.MapLaws.{count-map, any-map, map-mem, mem-map}
 use Rattle.plane.specs.declared.Segment.{Segment}
 use Rattle.plane.specs.Points.{isSegment}
@@ -93,8 +94,8 @@ module _ {rs : List Record} (sound : Sound rs) where
   }
 
 module _ {s : List ℤ} (region : Region s) where
-  pub region-single : (t : Segment) → t ∈ segments (records s) → count (isSegment t) (segments (records s)) ≤ 1
-  region-single t m =
+  member-single : (t : Segment) → t ∈ segments (records s) → count (isSegment t) (segments (records s)) ≤ 1
+  member-single t m =
       let r = segments-mem (records s) t m in
       omega (
         arith,
@@ -109,3 +110,11 @@ module _ {s : List ℤ} (region : Region s) where
           let w = and-true (left e) _ h in
           let one = sound-half (region .sound) e r n k (w .0 ∙ sym l) (isSegment-true t (segment e) (w .1) ∙ g) in
           rw one (isRecord-refl r)
+
+  pub region-single : (t : Segment) → count (isSegment t) (segments (records s)) ≤ 1
+  region-single t = go (highest (isSegment t) (λ u. 0) (segments (records s)))
+    where
+      go : ((u : Segment) → u ∈ segments (records s) → isSegment t u ≡ false)
+          ⊎ Top (isSegment t) (λ u. 0) (segments (records s)) → count (isSegment t) (segments (records s)) ≤ 1
+      go (inl none) = omega (arith, count-off (isSegment t) (segments (records s)) none)
+      go (inr top) = member-single t (rw (isSegment-true t (top .it) (top .passes)) at (top .member))

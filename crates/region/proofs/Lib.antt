@@ -2,9 +2,9 @@ pub mod Charts
 pub mod ChartLaws
 pub mod EndLaws
 pub mod ColumnLemma
+pub mod AcrossLaws
 pub mod StripLaws
 pub mod SlantLaws
-pub mod AcrossLaws
 pub mod UprightLaws
 pub mod CornerLaws
 pub mod HigherLaws

@@ -12,9 +12,9 @@ use Prim.Native.Nat.{ℕ, zero, suc, _+_, _-_, _*_, _%_, _<_, _≤_}
 use native.Mathlib.Nat.{lt-of-mul-lt-mul-left}
 use native.Mathlib.Omega.{arith}
 use lib.Dec.{ltb, leb}
-use borrow.Author.Tests.{ltb-true, leb-true, eqb-true, le-ltb, le-leb}
+use borrow.Author.Tests.{le-ltb, le-leb}
 use Rattle.counts.specs.Count.{_∈_, ind, count, odd}
-use Rattle.counts.proofs.TestLaws.{and-true, and-same, is-false, leb-ltb}
+use Rattle.counts.proofs.TestLaws.{and-same, is-false, leb-ltb}
 use Rattle.counts.proofs.SumLaws.{sum-ext, sum-add}
 use Rattle.counts.proofs.CountLaws.{count-ext, count-off}
 use Rattle.counts.proofs.ParityLaws.{odd-same}
@@ -29,6 +29,7 @@ use Rattle.plane.proofs.OrderLaws.{same-order, keys-differ}
 use Rattle.plane.proofs.ColumnLaws.{covers-is, covers-spans, reaches-covers}
 use Rattle.region.proofs.Charts.{EvenChart, Clear, fromLeft, toRight, across, under, upTo}
 use Rattle.region.proofs.ColumnLemma.{column}
+use Rattle.region.proofs.AcrossLaws.{across-is}
 
 module _ {W : ℕ} (M : ℕ) (scale : Scale W M) {ss : List Segment} (chart : EvenChart W ss)
     (s : Segment) (small : s .b .x < W) (clear : Clear ss s) where
@@ -64,11 +65,7 @@ module _ {W : ℕ} (M : ℕ) (scale : Scale W M) {ss : List Segment} (chart : Ev
 
     none-across : (t : Segment) → t ∈ ss → across M (suc x) η t ≡ false
     none-across t m =
-        is-false (across M (suc x) η t) (λ e. let upper = and-true _ _ e in
-        let lower = and-true _ _ (upper .0) in
-        let on = and-true _ _ (lower .0) in
-        never (eqb-true _ _ (on .0)) (eqb-true _ _ (on .1)) (ltb-true _ _ (lower .1)) (leb-true _ _ (upper .1))
-        (clear t m))
+        is-false _ (λ e. let h = across-is M (suc x) η t .0 e in never (h .0) (h .1) (h .2) (h .3) (clear t m))
       where
         -- it would touch s, which is not vertical
         never : t .a .x ≡ suc x → t .b .x ≡ suc x → 2 * M * t .a .y < η → η ≤ 2 * M * t .b .y

@@ -2,11 +2,12 @@
 use mathlib.Core.Logic.{⊎-elim}
 use Prim.Native.Nat.{_-_}
 use borrow.Author.Needs.{needs}
-use Rattle.question.proofs.TopsLaws.{Tops, tops-start, tops-take, tops-keep, tops-nearest}
+use Rattle.counts.proofs.TopmostLaws.{topmost-start}
+use Rattle.question.proofs.TopsLaws.{Tops, tops-take, tops-keep, tops-nearest}
 use Rattle.question.proofs.first_nearest.Statement.{statement}
 use Rattle.question.proofs.first_nearest.Tie as tie
 
-ruleset all = (needs, tops-start, tops-take, tops-keep, tops-nearest)
+ruleset all = (needs, topmost-start, tops-take, tops-keep, tops-nearest)
 
 abbrev Inv-loop : tie.InvT-loop
 Inv-loop s n p top₀ i₀ top i = Tops s n p i top
