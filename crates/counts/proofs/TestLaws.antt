@@ -1,7 +1,7 @@
 -- Laws of tests and of how two numbers lie to each other, for any caller.
 --     tests          for `omega`: a test on numbers that passed or failed is the fact it tests
 --     and-true, and-intro, or-true, or-left, or-right    tests joined by 'and' and 'or'
---     and-comm, and-same, is-false, not-true, same-test, xor-back, xor-self    of Booleans
+--     and-comm, and-same, is-false, not-true, not-false, same-test, xor-back, xor-self    of Booleans
 --     lt-or-le, Side, side                  of two numbers, by cases
 --     leb-not, leb-ltb, eqb-swap            of tests on two numbers
 --     or-is, and-is, ltb-is, leb-is, eqb-is, not-ltb-is    a test, or two joined, and what it tests, both ways
@@ -57,6 +57,10 @@ is-false false h = refl
 pub not-true : (b : Bool) → not b ≡ true → b ≡ false
 not-true true e = absurd (true≢false (sym e))
 not-true false e = refl
+
+pub not-false : (b : Bool) → not b ≡ false → b ≡ true
+not-false true e = refl
+not-false false e = absurd (true≢false e)
 
 -- two tests that follow from each other are one
 pub same-test : (a b : Bool) → (a ≡ true → b ≡ true) → (b ≡ true → a ≡ true) → a ≡ b

@@ -3,7 +3,9 @@
 --     starred     they hold
 -- Assumes nothing.
 use mathlib.Core.Path.{_≡_, refl}
+use mathlib.Core.Bool.{true, false}
 use lib.IntN.{pos, negsuc}
+use lib.Ieee.{fin, fits}
 use Rattle.counts.specs.Count.{sum, any, firstIndex, listed}
 use Rattle.counts.specs.Scan.{firstFrom}
 use Rattle.plane.specs.Turns.{turnsLeft, turnsRight, straight}
@@ -19,7 +21,12 @@ use Rattle.area.specs.declared.Area.the-variants.{Twice}
 use Rattle.area.specs.Areas.{total, share, areaOf}
 use Rattle.question.specs.declared.Place.the-variants.{Inside, Edge, Outside}
 use Rattle.question.specs.Places.{placeOf, placed}
+use Rattle.gauge.specs.Values.{size, isMultiple, isBelow, units}
+use Rattle.gauge.specs.Cards.{isFactor, isFrom, sound}
+use Rattle.gauge.specs.Readings.{pressure, row, atPin, refusal, Gauges}
+use Rattle.gauge.specs.Steps.{refusedBy}
 use Rattle.promises.specs.Bench.{square, lastMarkZero, bottomMarkedZero, squareWithHole, largeTriangle}
+use Rattle.promises.specs.Bench.{doubled, shifted, halved, spring, reads}
 
 pub record Starred : Type 0 where
   pub square-accepted : verdict square ≡ Accepted
@@ -38,11 +45,18 @@ pub record Starred : Type 0 where
   pub triangle-edge : placed largeTriangle (pointOf (pos 0) (negsuc 0)) ≡ Edge
   pub triangle-outside : placed largeTriangle (pointOf (pos 0) (pos 0)) ≡ Outside
   pub triangle-area : areaOf largeTriangle ≡ Twice (pos 4294836225)
+  pub doubled-read : Gauges doubled (pos 16383) (reads (fin false 16383 (pos 1)) (pos 32766))
+  pub doubled-refused : Gauges doubled (pos 16384) (refusedBy 23)
+  pub shifted-refused : Gauges shifted (negsuc 32767) (refusedBy 23)
+  pub halved-read : Gauges halved (negsuc 0) (reads (fin true 1 (negsuc 0)) (pos 0))
+  pub spring-read : Gauges spring (pos 999) (reads (fin false 999 (pos 0)) (pos 999))
+  pub spring-refused : Gauges spring (pos 1000) (refusedBy 22)
 
 pub starred : Starred
 unfolding sum any firstIndex listed firstFrom up recordAt precedes earlier leads squareLength segment isRecord
     touches splits within turnsLeft turnsRight straight countedFor endsAt belowPoint holds
     verdict judged placeOf placed total share areaOf
+    fits size isMultiple isBelow units isFactor isFrom sound pressure row atPin refusal
 starred = record {
   square-accepted = refl;
   square-inside = refl;
@@ -60,4 +74,10 @@ starred = record {
   triangle-edge = refl;
   triangle-outside = refl;
   triangle-area = refl;
+  doubled-read = record { number = refl; exact = record { held = refl; value = (refl, refl) }; place = refl };
+  doubled-refused = record { number = refl; exact = record { held = refl; value = (refl, refl) }; place = refl };
+  shifted-refused = record { number = refl; exact = record { held = refl; value = (refl, refl) }; place = refl };
+  halved-read = record { number = refl; exact = record { held = refl; value = (refl, refl) }; place = refl };
+  spring-read = record { number = refl; exact = record { held = refl; value = (refl, refl) }; place = refl };
+  spring-refused = record { number = refl; exact = record { held = refl; value = (refl, refl) }; place = refl };
 }

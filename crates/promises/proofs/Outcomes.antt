@@ -2,6 +2,7 @@
 -- all that is to be settled.
 --     same-check, same-point, same-nearest-below, same-inside-by-mark, same-area2    the answer
 --     point-by-mark     and what `point` and `inside_by_mark` answer is one
+--     same-read-sample  the refusal's number, the pressure as a float and the row, for every card and sample
 --     same-corner, same-run-at, same-smaller-head               the part: its numbers, the array it lies in, its place
 -- Assumes nothing.
 use mathlib.Core.Path.{_≡_, sym, _∙_}
@@ -16,6 +17,8 @@ use Rattle.chart.specs.declared.Verdict.{Verdict}
 use Rattle.question.specs.declared.Place.{Place}
 use Rattle.question.specs.declared.Nearest.{Nearest}
 use Rattle.area.specs.declared.Area.{Area}
+use Rattle.gauge.specs.declared.Gauged.{Gauged}
+use Rattle.gauge.proofs.ReadingLaws.{gauges-one}
 use Rattle.parts.specs.Parts.{Part}
 use Rattle.chart.proofs.check.Kinds as check-kinds
 use Rattle.chart.proofs.check.Reads as check
@@ -27,6 +30,8 @@ use Rattle.question.proofs.inside_by_mark.Kinds as inside-by-mark-kinds
 use Rattle.question.proofs.inside_by_mark.Reads as inside-by-mark
 use Rattle.area.proofs.area2.Kinds as area2-kinds
 use Rattle.area.proofs.area2.Reads as area2
+use Rattle.gauge.proofs.read_sample.Kinds as read-sample-kinds
+use Rattle.gauge.proofs.read_sample.Reads as read-sample
 use Rattle.question.proofs.corner.Kinds as corner-kinds
 use Rattle.question.proofs.corner.Reads as corner
 use Rattle.parts.proofs.run_at.Kinds as run-at-kinds
@@ -60,6 +65,12 @@ same-inside-by-mark κs a v w s t h k = h ∙ sym k
 
 pub same-area2 : Settled 1 area2-kinds.ps area2-kinds.r Area area2.Post
 same-area2 κs a v w s t h k = h ∙ sym k
+
+-- ---- gauge
+
+-- the contract says what the pressure's value is, and one 64-bit float has that value
+pub same-read-sample : Settled 0 read-sample-kinds.ps read-sample-kinds.r Gauged read-sample.Post
+same-read-sample κs a v w s t h k = gauges-one h k
 
 -- ---- parts of an array
 

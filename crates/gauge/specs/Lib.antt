@@ -1,0 +1,4 @@
+pub mod Values
+pub mod Cards
+pub mod Readings
+pub mod Steps
