@@ -1,5 +1,7 @@
 // What the library answers on document 01's bench examples and at the edges of the check, one line each. The gate
 // compares the lines with the file stdout.
+mod gauges;
+
 use area::Area;
 use chart::Refusal;
 use chart::Verdict;
@@ -17,11 +19,12 @@ fn main() {
     first_faults();
     two_faults();
     two_kinds();
+    gauges::about_gauges();
 }
 
 // ---- writing
 
-fn say(text: &[u8]) {
+pub fn say(text: &[u8]) {
     io::write_all(1, text);
 }
 

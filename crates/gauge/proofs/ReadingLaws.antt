@@ -6,15 +6,16 @@
 --     row-of-pressure, grid-of-pressure    its row, and whether that is on the grid
 --     refused-21, refused-22, refused-23, read    the four returns
 --     gauges-one          a card and a sample have one answer
+--     gauges-number       its pressure is no NaN
 -- Assumes nothing.
 use mathlib.Core.Path.{_≡_, refl, sym, ap, _∙_, subst}
-use mathlib.Core.Bool.{Bool, true, false, _||_}
+use mathlib.Core.Bool.{Bool, true, false, not, _||_}
 use Prim.Native.Nat.{ℕ, _^_, _<_}
 use native.Mathlib.Omega.{arith}
-use lib.Dec.{eqb}
+use lib.Dec.{T, eqb}
 use lib.IntN.{ℤ, pos, natAbs, _*ℤ_}
 use lib.Signed.{mag, ltZ, leZ}
-use lib.Ieee.{Float}
+use lib.Ieee.{Float, nan, inf, fin, isNan}
 use Rattle.counts.proofs.TestLaws.{and-true}
 use Rattle.grid.specs.Coordinates.{onGrid}
 use Rattle.gauge.specs.declared.Card.{Card}
@@ -113,3 +114,12 @@ gauges-one {c} {n} {g} {h} p q =
     let float : g .reading .pressure ≡ h .reading .pressure = exactly-one (p .exact) (q .exact) in
     let place : g .reading .row ≡ h .reading .row = p .place ∙ sym (q .place) in
     λ i. record { refusal = number i; reading = record { pressure = float i; row = place i } }
+
+number : {z : ℤ} (x : Float) → Exactly x z → T (not (isNan x))
+unfolding isNan
+number nan e = absurd (e .value)
+number (inf s) e = absurd (e .value)
+number (fin s m d) e = tt
+
+pub gauges-number : (c : Card) (n : ℤ) (g : Gauged) → Gauges c n g → T (not (isNan (g .reading .pressure)))
+gauges-number c n g h = number (g .reading .pressure) (h .exact)

@@ -196,8 +196,9 @@ fn read_sound(card: Card, sample: i16) -> Gauged
 {
     let p = pressure_of(card, sample);
     let row = row_of(p);
+    let at_pin = is_at_pin(card, sample, p);
     let on_grid = is_on_grid(row);
-    if is_at_pin(card, sample, p) {
+    if at_pin {
         return refused(22);
     }
     if !on_grid {

@@ -5,3 +5,4 @@ pub mod Outcomes
 pub mod LeafOutcomes
 pub mod Examples
 pub mod Slips
+pub mod Gauges
