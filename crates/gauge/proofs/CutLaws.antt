@@ -9,17 +9,8 @@
 use mathlib.Core.Path.{_≡_, refl, sym, ap, _∙_}
 use mathlib.Core.Bool.{Bool, true, false, _&&_, _||_, and-true, Bool·beq}
 use Prim.Native.Nat.{ℕ, zero, suc, _+_, _-_, _*_, _/_, _%_, _^_, _≤_, _<_}
-use native.Mathlib.Nat.{
-  mul-assoc,
-  mul-one,
-  zero-mul,
-  div-add-mod',
-  div-le-of-le-mul,
-  lt-of-lt-of-le,
-  lt-of-le-of-lt,
-  mul-le-mul-right,
-  lt-irrefl,
-}
+use native.Mathlib.Nat.{mul-assoc, mul-one, zero-mul, mul-le-mul-right, div-add-mod', div-le-of-le-mul}
+use native.Mathlib.Nat.{lt-irrefl, lt-of-lt-of-le, lt-of-le-of-lt}
 use native.Mathlib.Omega.{arith}
 use lib.Dec.{T, ltb, eqb, leb, lit<, leb→le, ltb→lt}
 use lib.IntN.{ℤ, pos, negsuc}

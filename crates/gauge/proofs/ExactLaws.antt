@@ -15,7 +15,7 @@ use mathlib.Core.Bool.{Bool, true, false, not, cond, _&&_, _||_, false≢true}
 use Prim.Native.Nat.{ℕ, zero, suc, _+_, _-_, _*_, _/_, _%_, _^_, _<_}
 use native.Mathlib.Nat.{mul-div-cancel, mul-mod-left, div-add-mod'}
 use native.Mathlib.Omega.{arith}
-use lib.Dec.{T, leb, ltb, eqb, lit<, leb·suc-suc}
+use lib.Dec.{leb, ltb, eqb, lit<, leb·suc-suc}
 use lib.IntN.{ℤ, pos, negsuc, natAbs}
 use lib.Signed.{nonNeg, leZ, quotZ}
 use lib.Ieee as Ieee
@@ -30,9 +30,6 @@ use Rattle.counts.proofs.TestLaws.{tests, and-true, or-left, or-right, is-false
 use Rattle.counts.proofs.TestLaws.{Side, less, equal, more, side}
 use Rattle.gauge.specs.Values.{inUnits, size, isMultiple, isBelow, signed, units, Exactly}
 use Rattle.gauge.proofs.FloatLaws.{le-value, cut-value, Castable, castable-value, whole-float}
-
-holds : {b : Bool} → b ≡ true → T b
-holds e = rw e tt
 
 abbrev isMinus : ℤ → Bool
 isMinus z = not (nonNeg z)
@@ -53,9 +50,9 @@ value-bits f (fin u m e) s a c C v =
 pub value-one : {x y : Float} (s : Bool) (a c : ℕ) → 0 < c → fits binary64 x ≡ true → fits binary64 y ≡ true
     → HasValue x s a c → HasValue y s a c → x ≡ y
 value-one {x} {y} s a c C f g v w =
-    sym (ofBits-toBits binary64 x (holds f))
+    sym (ofBits-toBits binary64 x (rw f tt))
     ∙ ap (ofBits binary64) (value-bits binary64 x s a c C v ∙ sym (value-bits binary64 y s a c C w))
-    ∙ ofBits-toBits binary64 y (holds g)
+    ∙ ofBits-toBits binary64 y (rw g tt)
 
 pub exactly-one : {x y : Float} {z : ℤ} → Exactly x z → Exactly y z → x ≡ y
 exactly-one {z} p q = value-one (isMinus z) (natAbs z) 256 (lit< tt) (p .held) (q .held) (p .value) (q .value)

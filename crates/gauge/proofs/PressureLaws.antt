@@ -3,7 +3,7 @@
 --     pin-exactly           and so is a pin
 --     product-exactly       a sample times a rate or a gain is exact
 --     difference-exactly    and so is that less a zero
---     product-small, pressure-small    there are fewer than 2 ^ 53 256ths in it
+--     product-small, difference-small    how few 256ths these are
 -- Assumes nothing.
 use mathlib.Core.Path.{_≡_, refl, sym, ap, _∙_, subst}
 use mathlib.Core.Bool.{Bool, true, false, cond, not, _&&_, false≢true}
@@ -21,8 +21,8 @@ use Rattle.gauge.specs.Values.{size, isMultiple, isBelow, signed, units,
 use Rattle.gauge.specs.Cards.{most, isZero}
 use Rattle.gauge.proofs.FloatLaws.{mul-value, sub-value}
 use Rattle.gauge.proofs.ExactLaws.{floatOf, float-exactly, units-exactly, multiple-value}
-use Rattle.gauge.proofs.RangeLaws.{zero-multiple, zero-most}
-use Rattle.gauge.proofs.CardLaws.{Factor, From}
+use Rattle.gauge.proofs.RangeLaws.{zero-most}
+use Rattle.gauge.proofs.CardLaws.{Factor, From, from-is}
 
 -- ---- a rate, a gain and a pin are exactly their 256ths
 
@@ -166,6 +166,6 @@ module _ (y : Float) (z : ℤ) (k : natAbs z ≤ 2147483648) (f : isZero y ≡ t
   pub difference-exactly : {x : Float} → Exactly x z → Exactly (sub binary64 x y) (z -ℤ units y)
   unfolding units
   difference-exactly {x} e =
-      let v = multiple-value y (zero-multiple y f) in
+      let v = multiple-value y (from-is (negℤ most) most y f .multiple) in
       let s = sub-value (not (nonNeg z)) (isBelow y) (natAbs z) (size y) 256 (lit< tt) binary64 x y (e .value) v in
       rw (s, sum-float z (isBelow y) (size y)) (float-exactly (z -ℤ units y) difference-small)

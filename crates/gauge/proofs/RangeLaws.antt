@@ -2,6 +2,7 @@
 --     low, high          the ends as the code has them
 --     isNear x           a multiple of 1/256 of size 65,536 at the most
 --     zero-near          that is `isZero`
+--     zero-most          so what may be a zero is of that size at the most
 --     Within x           x is a number of size 65,536 at the most
 --     within             what passes both comparisons is within
 --     beyond             what fails one is not near
@@ -46,15 +47,10 @@ zero-near x = go (isMultiple x)
     go true = range-size (isBelow x) (size x)
     go false = refl
 
-near-parts : (x : Float) → isZero x ≡ true → (isMultiple x ≡ true) × (leb (size x) 16777216 ≡ true)
-unfolding isNear
-near-parts x h = both (isMultiple x) (leb (size x) 16777216) (sym (zero-near x) ∙ h)
-
-pub zero-multiple : (x : Float) → isZero x ≡ true → isMultiple x ≡ true
-zero-multiple x h = near-parts x h .0
-
 pub zero-most : (x : Float) → isZero x ≡ true → size x ≤ 16777216
-zero-most x h = leb-true (size x) 16777216 (near-parts x h .1)
+unfolding isNear
+zero-most x h =
+    leb-true (size x) 16777216 (both (isMultiple x) (leb (size x) 16777216) (sym (zero-near x) ∙ h) .1)
 
 abbrev pub Within : Float → Type 0
 Within nan = ⊥

@@ -8,7 +8,7 @@
 --                      where refused, "pressure (positive zero) and row are then zero"
 -- Assumes nothing.
 use mathlib.Core.Path.{_≡_}
-use mathlib.Core.Bool.{Bool, false, cond, _||_}
+use mathlib.Core.Bool.{Bool, false, cond, not, _||_}
 use Prim.Native.Nat.{ℕ}
 use lib.Dec.{eqb}
 use lib.IntN.{ℤ, pos, _-ℤ_, _*ℤ_}
@@ -35,7 +35,7 @@ atPin (Bridge gain zero) n = false
 
 unfoldable pub refusal : Card → ℤ → ℕ
 unfolding sound atPin pressure row
-refusal c n = cond (sound c) (cond (atPin c n) 22 (cond (onGrid (row (pressure c n))) 0 23)) 21
+refusal c n = cond (not (sound c)) 21 (cond (atPin c n) 22 (cond (not (onGrid (row (pressure c n)))) 23 0))
 
 abbrev pub answered : Card → ℤ → ℤ → ℤ
 answered c n z = cond (eqb (refusal c n) 0) z (pos 0)

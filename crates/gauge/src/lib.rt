@@ -1,7 +1,7 @@
 // Gauges (document 01, "Gauges"): a card and a sample, to the exact pressure and its grid row, or a numbered refusal.
 ghost use mathlib.Core.Path.{_≡_};
 ghost use mathlib.Core.Bool.{true, _||_};
-ghost use Prim.Native.Nat.{_<_, _^_};
+ghost use Prim.Native.Nat.{_<_};
 ghost use lib.IntN.{pos, _*ℤ_, _-ℤ_};
 ghost use lib.Signed.{ltZ, leZ};
 ghost use Rattle.counts.specs.Scan.{Found};
@@ -35,9 +35,9 @@ const POWERS: u64 = 17;
 // ---- a float in 256ths
 
 // A float as a whole number of 256ths, where it is one: `count` of them. Elsewhere the count is 0.
-pub struct Units {
-    pub whole: bool,
-    pub count: i64,
+struct Units {
+    whole: bool,
+    count: i64,
 }
 
 // A multiple of 1/256 from -65,536 to 65,536, in 256ths. A NaN fails both comparisons. Times 256 is exact, and the

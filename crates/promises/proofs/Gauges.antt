@@ -10,7 +10,7 @@
 -- Assumes nothing.
 use mathlib.Core.Path.{_≡_, refl, sym, ap, _∙_, subst}
 use mathlib.Core.Logic.{_↔_, _≢_}
-use mathlib.Core.Bool.{Bool, true, false, cond, and-false, true≢false, false≢true}
+use mathlib.Core.Bool.{Bool, true, false, cond, not, and-false, true≢false, false≢true}
 use Prim.Native.Nat.{ℕ}
 use native.Mathlib.Omega.{arith}
 use lib.Dec.{eqb}
@@ -32,7 +32,7 @@ use Rattle.gauge.proofs.ExactLaws.{exactly-one, zero-exactly}
 
 -- by the three tests, in the paper's order
 abbrev table : Bool → Bool → Bool → ℕ
-table s p g = cond s (cond p 22 (cond g 0 23)) 21
+table s p g = cond (not s) 21 (cond p 22 (cond (not g) 23 0))
 
 module _ (c : Card) (n : ℤ) where
   pub refused-21 : (refusal c n ≡ 21) ↔ (sound c ≡ false)
