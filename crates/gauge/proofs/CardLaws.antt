@@ -1,6 +1,6 @@
 -- The card's rules as the code tests them: over how many 256ths a float is, where it is a zero's multiple of 1/256.
 --     Factor x, factor-is        what a rate or a gain is: 2 ^ k 256ths, for a k below 17
---     From a b x, from-is        what a multiple from a to b is
+--     From a b x, from-is, is-from    what a multiple from a to b is
 --     cast-count                 a count that is not below zero can be cast
 --     pin-counted                a pin is in the range of a zero, so the test of its count is the rule
 --     factor-counted, factor-below    and so with a rate or a gain
@@ -67,7 +67,7 @@ from-is a b x h =
     let v = and-true (isMultiple x) (leZ a (units x)) (w .0) in
     record { multiple = v .0; low = v .1; high = w .1 }
 
-is-from : {a b : ℤ} {x : Float} → From a b x → isFrom a b x ≡ true
+pub is-from : {a b : ℤ} {x : Float} → From a b x → isFrom a b x ≡ true
 unfolding isFrom
 is-from f = and-intro (and-intro (f .multiple) (f .low)) (f .high)
 

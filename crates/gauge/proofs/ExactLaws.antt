@@ -1,8 +1,11 @@
 -- Laws of `Exactly` (specs/Values.antt): a float that is z 256ths, no more and no less.
 --     value-one                two 64-bit floats of one sign and one size, as a fraction, are the same float
 --     exactly-one              so one float at most is exactly z 256ths
+--     value-multiple, value-size, value-below    a float that is n 256ths in size is a multiple of 1/256, of that size
+--                              and sign
 --     exactly-multiple, exactly-size, exactly-units    it is a multiple of 1/256, and z is how many 256ths it is
---     multiple-value           a multiple of 1/256 has its size and sign for its value
+--     multiple-value           and a multiple of 1/256 has its size and sign for its value
+--     positive-value           so one whose 256ths are n above zero is n / 256
 --     units-exactly            a multiple of 1/256 is exactly its 256ths, unless it is the negative zero
 --     zero-exactly             the positive zero is exactly 0
 --     floatOf                  the float of z 256ths
@@ -10,7 +13,7 @@
 --     le-exactly               comparing two such floats compares their 256ths
 --     castable, cut-exactly    such a float is in range of an i64, and the cast drops its fraction towards zero
 -- Assumes nothing.
-use mathlib.Core.Path.{_≡_, refl, sym, ap, _∙_}
+use mathlib.Core.Path.{_≡_, refl, sym, ap, _∙_, subst}
 use mathlib.Core.Bool.{Bool, true, false, not, cond, _&&_, _||_, false≢true}
 use Prim.Native.Nat.{ℕ, zero, suc, _+_, _-_, _*_, _/_, _%_, _^_, _<_}
 use native.Mathlib.Nat.{mul-div-cancel, mul-mod-left, div-add-mod'}
@@ -60,16 +63,16 @@ exactly-one {z} p q = value-one (isMinus z) (natAbs z) 256 (lit< tt) (p .held) (
 -- ---- its 256ths
 
 module _ (s : Bool) (n : ℕ) where
-  value-multiple : (x : Float) → HasValue x s n 256 → isMultiple x ≡ true
+  pub value-multiple : (x : Float) → HasValue x s n 256 → isMultiple x ≡ true
   unfolding isMultiple
   value-multiple (fin u m e) v =
       eq-eqb (inUnits m e % down e) 0 (ap (λ k. k % down e) (v .1) ∙ mul-mod-left n (down e))
 
-  value-size : (x : Float) → HasValue x s n 256 → size x ≡ n
+  pub value-size : (x : Float) → HasValue x s n 256 → size x ≡ n
   unfolding size
   value-size (fin u m e) v = ap (λ k. k / down e) (v .1) ∙ mul-div-cancel n (down-pos e)
 
-  value-below : (x : Float) → HasValue x s n 256 → isBelow x ≡ s
+  pub value-below : (x : Float) → HasValue x s n 256 → isBelow x ≡ s
   unfolding isBelow
   value-below (fin u m e) v = v .0
 
@@ -94,6 +97,18 @@ multiple-value nan h = absurd (false≢true h)
 multiple-value (inf s) h = absurd (false≢true h)
 multiple-value (fin s m e) h =
     (refl, omega (arith, eqb-true (inUnits m e % down e) 0 h, div-add-mod' (inUnits m e) (down e)))
+
+pub positive-value : (x : Float) (n : ℕ) → isMultiple x ≡ true → units x ≡ pos n → 0 < n → HasValue x false n 256
+unfolding units
+positive-value x n h u some = go (isBelow x) (size x) u (multiple-value x h)
+  where
+    none : 0 ≡ n → ⊥
+    none e = omega arith
+
+    go : (s : Bool) (k : ℕ) → signed s k ≡ pos n → HasValue x s k 256 → HasValue x false n 256
+    go false k e v = subst (λ m. HasValue x false m 256) (ap natAbs e) v
+    go true zero e v = absurd (none (ap natAbs e))
+    go true (suc k) e v = absurd (false≢true (ap nonNeg e))
 
 pub units-exactly : {x : Float} → fits binary64 x ≡ true → isMultiple x ≡ true → (isBelow x ≡ true → 0 < size x)
     → Exactly x (units x)

@@ -5,3 +5,4 @@ pub mod CutLaws
 pub mod CardLaws
 pub mod PressureLaws
 pub mod ReadingLaws
+pub mod RuleLaws

@@ -17,36 +17,25 @@ use lib.Signed.{nonNeg, mag, leZ}
 use lib.Ieee.{Float, binary64, fits, mul, sub, sum, round, ofInt}
 use lib.Ieee.Back.{round-whole}
 use borrow.Author.Tests.{lt-ltb, le-ltb, ltb-true, ltb-false, leb-true}
-use Rattle.gauge.specs.Values.{size, isMultiple, isBelow, signed, units, Exactly}
+use Rattle.gauge.specs.Values.{size, isBelow, signed, units, Exactly}
 use Rattle.gauge.specs.Cards.{most, isZero}
 use Rattle.gauge.proofs.FloatLaws.{mul-value, sub-value}
-use Rattle.gauge.proofs.ExactLaws.{floatOf, float-exactly, units-exactly, multiple-value}
+use Rattle.gauge.proofs.ExactLaws.{floatOf, float-exactly, multiple-value, positive-value}
 use Rattle.gauge.proofs.RangeLaws.{zero-most}
 use Rattle.gauge.proofs.CardLaws.{Factor, From, from-is}
 
 -- ---- a rate, a gain and a pin are exactly their 256ths
 
-positive-exactly : {x : Float} (n : ℕ) → fits binary64 x ≡ true → isMultiple x ≡ true → units x ≡ pos n → 0 < n
-    → Exactly x (pos n)
-unfolding units
-positive-exactly {x} n f m u p = subst (Exactly x) u (units-exactly f m (λ b. some (isBelow x) (size x) u))
-  where
-    none : 0 ≡ n → ⊥
-    none e = omega arith
-
-    some : (s : Bool) (k : ℕ) → signed s k ≡ pos n → 0 < k
-    some true zero e = absurd (none (ap natAbs e))
-    some false zero e = absurd (none (ap natAbs e))
-    some s (suc k) e = omega arith
-
 pub factor-exactly : {x : Float} (f : Factor x) → fits binary64 x ≡ true → Exactly x (pos (2 ^ f .power))
-factor-exactly f h = positive-exactly (2 ^ f .power) h (f .multiple) (f .is) (pow-pos (f .power))
+factor-exactly {x} f h =
+    record { held = h; value = positive-value x (2 ^ f .power) (f .multiple) (f .is) (pow-pos (f .power)) }
 
 pub pin-exactly : {x : Float} → From (pos 1) most x → fits binary64 x ≡ true → Exactly x (units x)
 pin-exactly {x} f h = go (units x) refl (f .low)
   where
     go : (z : ℤ) → units x ≡ z → leZ (pos 1) z ≡ true → Exactly x (units x)
-    go (pos n) e l = subst (Exactly x) (sym e) (positive-exactly n h (f .multiple) e (leb-true 1 n l))
+    go (pos n) e l =
+        subst (Exactly x) (sym e) (record { held = h; value = positive-value x n (f .multiple) e (leb-true 1 n l) })
     go (negsuc n) e l = absurd (false≢true l)
 
 -- ---- the product

@@ -1,4 +1,7 @@
 -- What the library promises of gauges, over document 01's rules and for every float, NaNs and infinities too.
+--     rate-rule, pin-rule, zero-rule    the card's rules, both ways: a rate or a gain is 2 ^ k / 256 for a k from 0 to
+--                        16, a pin n / 256 and a zero n / 256 or -n / 256 for an n in its range. `HasValue x s a c`
+--                        (lib.Ieee.Exact): x is a number, negative where s is true, and a / c in size
 --     refused-21, refused-22, refused-23    when each refusal is given, both ways
 --     read-0             when the sample is read, both ways
 --     reading-exact      the pressure of a sample that is read is exactly the sample times rate, or the sample times
@@ -11,12 +14,13 @@
 use mathlib.Core.Path.{_≡_, refl, sym, ap, _∙_, subst}
 use mathlib.Core.Logic.{_↔_, _≢_}
 use mathlib.Core.Bool.{Bool, true, false, cond, not, and-false, true≢false, false≢true}
-use Prim.Native.Nat.{ℕ}
+use Prim.Native.Nat.{ℕ, _*_, _^_, _≤_, _<_}
 use native.Mathlib.Omega.{arith}
 use lib.Dec.{eqb}
 use lib.IntN.{ℤ, pos}
 use lib.Ieee.{Float, nan, inf, fin, binary64, nanBits, ofBits, isNan}
 use lib.Ieee.Bits.{nanBits-is}
+use lib.Ieee.Exact.{HasValue}
 use borrow.Author.Tests.{ne-eqb}
 use Rattle.counts.specs.Count.{any, listed}
 use Rattle.grid.specs.Coordinates.{onGrid}
@@ -27,6 +31,18 @@ use Rattle.gauge.specs.Values.{size, isMultiple, isBelow, units, Exactly}
 use Rattle.gauge.specs.Cards.{isFactor, isFrom, isPin, isZero, sound}
 use Rattle.gauge.specs.Readings.{pressure, row, atPin, refusal, Gauges}
 use Rattle.gauge.proofs.ExactLaws.{exactly-one, zero-exactly}
+use Rattle.gauge.proofs.RuleLaws as rules
+
+-- ---- the card's rules, by the floats' values
+
+pub rate-rule : (x : Float) → (isFactor x ≡ true) ↔ ((k : ℕ) × (k < 17) × HasValue x false (2 ^ k) 256)
+rate-rule = rules.factor-rule
+
+pub pin-rule : (x : Float) → (isPin x ≡ true) ↔ ((n : ℕ) × (1 ≤ n) × (n ≤ 65536 * 256) × HasValue x false n 256)
+pin-rule = rules.pin-rule
+
+pub zero-rule : (x : Float) → (isZero x ≡ true) ↔ ((s : Bool) × (n : ℕ) × (n ≤ 65536 * 256) × HasValue x s n 256)
+zero-rule = rules.zero-rule
 
 -- ---- which refusal
 

@@ -10,8 +10,8 @@
 --                         others
 -- Demand 1, that each question first gives the chart's refusal: Refusals.antt. What is promised of gauges: Gauges.antt.
 -- That any two outcomes of one promise coincide: Outcomes.antt for the questions, LeafOutcomes.antt for the functions
--- below them. The starred bench examples under a single statement: Examples.antt. What goes wrong where a rule of counting
--- is dropped: Slips.antt.
+-- below them. The starred bench examples under a single statement: Examples.antt. What goes wrong where a rule of
+-- counting is dropped: Slips.antt.
 -- Assumes nothing.
 use mathlib.Core.Path.{_≡_, refl, sym, ap, _∙_, subst}
 use mathlib.Core.Logic.{_↔_}
