@@ -9,7 +9,7 @@ note() {
 }
 
 for source in crates/*/src/*.rt; do
-    [ "$(basename "$source")" = main.rt ] && continue
+    [ -f "$(dirname "$source")/main.rt" ] && continue
     while read -r name; do
         law="same-${name//_/-}"
         grep -qE "^pub $law :" crates/promises/proofs/*.antt
