@@ -2,17 +2,13 @@
 -- value goes through its bits, `toZ w (ofZ w z)`.
 --     difference-fits, difference-is     where both numbers fit the signed width, so does their difference
 --     sum-small                          and a sum over no more records than shown fits 64 bits, signed
---     natural-fits                       a number of 64 bits that is not below zero can be cast back to unsigned
 -- Assumes nothing.
 use mathlib.Core.Path.{_≡_, ap₂, _∙_}
-use mathlib.Core.Bool.{false, true≢false}
 use Prim.Native.Nat.{ℕ, _^_, _≤_, _<_}
 use native.Mathlib.Omega.{arith}
-use lib.Dec.{T}
-use lib.IntN.{ℤ, pos, negsuc, natAbs, _-ℤ_}
-use lib.Signed.{ltZ, nonNeg}
+use lib.IntN.{_-ℤ_}
 use mir.Syntax.{Width, w64}
-use mir.Val.{hbits, Fits, SFits, toZ, ofZ}
+use mir.Val.{hbits, SFits, toZ, ofZ}
 use mir.ValLaws.{toZ-ofZ, toZ-pos}
 use Rattle.counts.specs.Scan.{Summed}
 use Rattle.plane.proofs.DifferenceLaws.{diff, diff-mag}
@@ -31,7 +27,3 @@ module _ (w : Width) (m k : ℕ) (h : m < 2 ^ hbits w) (g : k < 2 ^ hbits w) whe
 pub sum-small : {A : Type 0} {v : A → ℕ} {f : ℕ → A} {n m : ℕ} → Summed v f mostTerm n m → n ≤ mostRecords
     → m < 2 ^ hbits w64
 sum-small s l = omega (arith, s .most)
-
-pub natural-fits : (z : ℤ) → SFits w64 z → ltZ z (pos 0) ≡ false → T (nonNeg z) × Fits w64 (natAbs z)
-natural-fits (pos n) h e = (tt, record { fits = omega (arith, h .sfits) })
-natural-fits (negsuc n) h e = absurd (true≢false e)

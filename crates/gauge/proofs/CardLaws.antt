@@ -1,7 +1,6 @@
 -- The card's rules as the code tests them: over how many 256ths a float is, where it is a zero's multiple of 1/256.
 --     Factor x, factor-is        what a rate or a gain is: 2 ^ k 256ths, for a k below 17
 --     From a b x, from-is, is-from    what a multiple from a to b is
---     cast-count                 a count that is not below zero can be cast
 --     pin-counted                a pin is in the range of a zero, so the test of its count is the rule
 --     factor-counted, factor-below    and so with a rate or a gain
 -- Assumes nothing.
@@ -10,14 +9,12 @@ use mathlib.Core.Bool.{Bool, true, false, _&&_, true≢false, false≢true}
 use Prim.Native.Nat.{ℕ, _^_, _≤_, _<_, zero-le}
 use native.Mathlib.Nat.{le-trans}
 use native.Mathlib.Omega.{arith}
-use lib.Dec.{T, lit≤}
+use lib.Dec.{lit≤}
 use lib.IntN.{ℤ, pos, negsuc, negℤ, natAbs}
 use lib.Pow.{pow-mono}
 use lib.Signed.{nonNeg, ltZ, leZ}
 use lib.Ieee.{Float}
 use borrow.Author.Tests.{ltb-true, le-leb, eqb-true}
-use mir.Syntax.{w64}
-use mir.Val.{Fits, SFits}
 use Rattle.counts.specs.Count.{any, listed}
 use Rattle.counts.specs.Scan.{firstFrom}
 use Rattle.counts.proofs.TestLaws.{and-true, and-intro, same-test, is-false}
@@ -82,11 +79,6 @@ pin-range {x} f = record { multiple = f .multiple; low = above (units x) (f .low
     above : (z : ℤ) → leZ (pos 1) z ≡ true → leZ (negℤ most) z ≡ true
     above (pos n) h = refl
     above (negsuc n) h = absurd (false≢true h)
-
--- a count that is not below zero, cast to an unsigned one
-pub cast-count : (z : ℤ) → SFits w64 z → ltZ z (pos 0) ≡ false → T (nonNeg z) × Fits w64 (natAbs z)
-cast-count (pos n) k h = (tt, record { fits = omega (arith, k .sfits) })
-cast-count (negsuc n) k h = absurd (true≢false h)
 
 -- ---- u is what `units_of` answers of x
 

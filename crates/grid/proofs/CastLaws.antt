@@ -3,17 +3,18 @@
 --     widened-fits, sum-fits, count-is              up: a number, widened, and 32,768 more
 --     pointOf-passed                                two coordinates passed on to a call
 --     difference-fits, narrowed-fits, number-is     down: a count, widened, and 32,768 less
+--     natural-fits          for any caller: a number of 64 bits that is not below zero can be cast to unsigned
 -- The sum and the difference fit at any step k, so that a wrong step is refused for what it answers.
 -- Assumes nothing.
 use mathlib.Core.Path.{_≡_, refl, ap₂, _∙_}
-use mathlib.Core.Bool.{Bool, true, false, cond}
+use mathlib.Core.Bool.{Bool, true, false, cond, true≢false}
 use Prim.Native.Nat.{ℕ, suc, _-_, _<_}
 use native.Mathlib.Omega.{arith}
-use lib.Dec.{ltb}
-use lib.IntN.{ℤ, pos, negsuc, _+ℤ_, _-ℤ_}
-use lib.Signed.{mag}
-use mir.Syntax.{w16, w32}
-use mir.Val.{SFits, toZ, ofZ}
+use lib.Dec.{T, ltb}
+use lib.IntN.{ℤ, pos, negsuc, natAbs, _+ℤ_, _-ℤ_}
+use lib.Signed.{mag, nonNeg, ltZ}
+use mir.Syntax.{w16, w32, w64}
+use mir.Val.{Fits, SFits, toZ, ofZ}
 use mir.ValLaws.{toZ-ofZ, toZ-pos}
 use Rattle.plane.specs.declared.Point.{Point}
 use Rattle.grid.specs.Coordinates.{up, down, pointOf}
@@ -33,6 +34,10 @@ mag-sub m n h g = go (ltb m n) refl
 pub pointOf-passed : (x y : ℤ) {p : Point} → SFits w16 x → SFits w16 y
     → p ≡ pointOf (toZ w16 (ofZ w16 x)) (toZ w16 (ofZ w16 y)) → p ≡ pointOf x y
 pointOf-passed x y f g e = e ∙ ap₂ pointOf (toZ-ofZ w16 x f) (toZ-ofZ w16 y g)
+
+pub natural-fits : (z : ℤ) → SFits w64 z → ltZ z (pos 0) ≡ false → T (nonNeg z) × Fits w64 (natAbs z)
+natural-fits (pos n) h e = (tt, record { fits = omega (arith, h .sfits) })
+natural-fits (negsuc n) h e = absurd (true≢false e)
 
 -- ---- up
 

@@ -5,7 +5,7 @@ use lib.IntN.{pos}
 use lib.Signed.{ltZ}
 use mir.Syntax.{w64}
 use mir.ValLaws.{toZ-ofZ}
-use Rattle.area.proofs.CastLaws.{natural-fits}
+use Rattle.grid.proofs.CastLaws.{natural-fits}
 use Rattle.examples.proofs.magnitude.Statement.{statement}
 use Rattle.examples.proofs.magnitude.Tie as tie
 

@@ -6,8 +6,9 @@ use lib.IntN.{natAbs}
 use mir.Syntax.{w64}
 use mir.ValLaws.{toZ-ofZ}
 use Rattle.counts.proofs.ReadLaws.{found-any}
+use Rattle.grid.proofs.CastLaws.{natural-fits}
 use Rattle.gauge.specs.Cards.{isPower}
-use Rattle.gauge.proofs.CardLaws.{factor-below, factor-counted, cast-count}
+use Rattle.gauge.proofs.CardLaws.{factor-below, factor-counted}
 use Rattle.gauge.proofs.is_factor.Statement.{statement}
 use Rattle.gauge.proofs.is_factor.Tie as tie
 
@@ -21,7 +22,7 @@ cast-first-power c =
     let u = c .before .before .before .before .before .units-of in
     let n = u .result .count in
     rw (toZ-ofZ w64 n (search needs))
-    (cast-count n (search needs) (rw (toZ-ofZ w64 n (search needs)) at (c .before .before .if1 .left)))
+    (natural-fits n (search needs) (rw (toZ-ofZ w64 n (search needs)) at (c .before .before .if1 .left)))
 
 returns-2 : tie.Need-returns-2
 returns-2 c =

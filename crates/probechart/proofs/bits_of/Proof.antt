@@ -10,7 +10,7 @@ use lib.Signed.{mag, ltZ}
 use mir.Syntax.{w64}
 use mir.Val.{SFits, toZ, ofZ}
 use mir.ValLaws.{toZ-ofZ}
-use Rattle.area.proofs.CastLaws.{natural-fits}
+use Rattle.grid.proofs.CastLaws.{natural-fits}
 use Rattle.probechart.proofs.bits_of.Statement.{statement}
 use Rattle.probechart.proofs.bits_of.Tie as tie
 
