@@ -9,85 +9,84 @@ pub fn about_gauges() {
 }
 
 fn about_bridges() {
-    say_gauged(b"gain 2, zero 0, sample 16383", bridge(2.0, 0.0), 16383);
-    say_gauged(b"gain 2, zero 0, sample 16384", bridge(2.0, 0.0), 16384);
-    say_gauged(b"gain 1, zero 1, sample -32768", bridge(1.0, 1.0), -32768);
-    say_gauged(b"gain 0.5, zero 0, sample -1", bridge(0.5, 0.0), -1);
-    say_gauged(b"gain 1, zero 0.5, sample -32768", bridge(1.0, 0.5), -32768);
-    say_gauged(
+    say_bridge(b"gain 2, zero 0, sample 16383", 2.0, 0.0, 16383);
+    say_bridge(b"gain 2, zero 0, sample 16384", 2.0, 0.0, 16384);
+    say_bridge(b"gain 1, zero 1, sample -32768", 1.0, 1.0, -32768);
+    say_bridge(b"gain 0.5, zero 0, sample -1", 0.5, 0.0, -1);
+    say_bridge(b"gain 1, zero 0.5, sample -32768", 1.0, 0.5, -32768);
+    say_bridge(
         b"gain 1/256, zero 65536, sample 32767",
-        bridge(0.00390625, 65536.0),
+        0.00390625,
+        65536.0,
         32767,
     );
-    say_gauged(
+    say_bridge(
         b"gain 1/256, zero -32640, sample 32767",
-        bridge(0.00390625, -32640.0),
+        0.00390625,
+        -32640.0,
         32767,
     );
-    say_gauged(
-        b"gain 256, zero -65536, sample -128",
-        bridge(256.0, -65536.0),
-        -128,
-    );
-    say_gauged(b"gain 1, zero -0, sample 0", bridge(1.0, -0.0), 0);
+    say_bridge(b"gain 256, zero -65536, sample -128", 256.0, -65536.0, -128);
+    say_bridge(b"gain 1, zero -0, sample 0", 1.0, -0.0, 0);
 }
 
 fn about_springs() {
-    say_gauged(b"rate 1, pin 1000, sample 999", spring(1.0, 1000.0), 999);
-    say_gauged(b"rate 1, pin 1000, sample 1000", spring(1.0, 1000.0), 1000);
-    say_gauged(b"rate 1, pin 1000, sample -1", spring(1.0, 1000.0), -1);
-    say_gauged(
+    say_spring(b"rate 1, pin 1000, sample 999", 1.0, 1000.0, 999);
+    say_spring(b"rate 1, pin 1000, sample 1000", 1.0, 1000.0, 1000);
+    say_spring(b"rate 1, pin 1000, sample -1", 1.0, 1000.0, -1);
+    say_spring(
         b"rate 1/256, pin 1/256, sample 0",
-        spring(0.00390625, 0.00390625),
+        0.00390625,
+        0.00390625,
         0,
     );
-    say_gauged(
+    say_spring(
         b"rate 1/256, pin 1/256, sample 1",
-        spring(0.00390625, 0.00390625),
+        0.00390625,
+        0.00390625,
         1,
     );
-    say_gauged(
-        b"rate 256, pin 65536, sample 127",
-        spring(256.0, 65536.0),
-        127,
-    );
-    say_gauged(
+    say_spring(b"rate 256, pin 65536, sample 127", 256.0, 65536.0, 127);
+    say_spring(
         b"rate 256, pin 65536, sample 128, off the grid",
-        spring(256.0, 65536.0),
+        256.0,
+        65536.0,
         128,
     );
-    say_gauged(
+    say_spring(
         b"rate 256, pin 65536, sample 256, at the pin as well",
-        spring(256.0, 65536.0),
+        256.0,
+        65536.0,
         256,
     );
 }
 
 fn about_rules() {
-    say_gauged(b"gain 3", bridge(3.0, 0.0), 0);
-    say_gauged(b"gain 512", bridge(512.0, 0.0), 0);
-    say_gauged(b"gain 1/512", bridge(0.001953125, 0.0), 0);
-    say_gauged(b"gain -1", bridge(-1.0, 0.0), 0);
-    say_gauged(b"gain -0", bridge(-0.0, 0.0), 0);
-    say_gauged(b"zero 65536 and 1/256", bridge(1.0, 65536.00390625), 0);
-    say_gauged(b"zero 1/512", bridge(1.0, 0.001953125), 0);
-    say_gauged(b"pin 0", spring(1.0, 0.0), 0);
-    say_gauged(b"a gain that is no number", bridge(0.0 / 0.0, 0.0), 0);
-    say_gauged(b"a zero that is no number", bridge(1.0, 0.0 / 0.0), 0);
-    say_gauged(b"an infinite pin", spring(1.0, 1.0 / 0.0), 0);
-    say_gauged(
+    say_bridge(b"gain 3", 3.0, 0.0, 0);
+    say_bridge(b"gain 512", 512.0, 0.0, 0);
+    say_bridge(b"gain 1/512", 0.001953125, 0.0, 0);
+    say_bridge(b"gain -1", -1.0, 0.0, 0);
+    say_bridge(b"gain -0", -0.0, 0.0, 0);
+    say_bridge(b"zero 65536 and 1/256", 1.0, 65536.00390625, 0);
+    say_bridge(b"zero 1/512", 1.0, 0.001953125, 0);
+    say_spring(b"pin 0", 1.0, 0.0, 0);
+    say_bridge(b"a gain that is no number", 0.0 / 0.0, 0.0, 0);
+    say_bridge(b"a zero that is no number", 1.0, 0.0 / 0.0, 0);
+    say_spring(b"an infinite pin", 1.0, 1.0 / 0.0, 0);
+    say_spring(
         b"an infinite rate, and a negative sample",
-        spring(1.0 / 0.0, 1000.0),
+        1.0 / 0.0,
+        1000.0,
         -1,
     );
 }
 
-fn spring(rate: f64, pin: f64) -> Card {
-    Card::Spring { rate, pin }
+fn say_spring(text: &[u8], rate: f64, pin: f64, sample: i16) {
+    say_gauged(text, Card::Spring { rate, pin }, sample);
 }
 
-fn bridge(gain: f64, zero: f64) -> Card {
-    Card::Bridge { gain, zero }
+fn say_bridge(text: &[u8], gain: f64, zero: f64, sample: i16) {
+    say_gauged(text, Card::Bridge { gain, zero }, sample);
 }
 
 fn say_gauged(text: &[u8], card: Card, sample: i16) {
