@@ -2,7 +2,7 @@
 use crate::say;
 use gauge::Card;
 
-pub fn about_gauges() {
+pub(crate) fn about_gauges() {
     about_bridges();
     about_springs();
     about_rules();

@@ -24,7 +24,7 @@ fn main() {
 
 // ---- writing
 
-pub fn say(text: &[u8]) {
+fn say(text: &[u8]) {
     io::write_all(1, text);
 }
 

@@ -23,8 +23,8 @@ use Rattle.gauge.specs.declared.Card.the-variants.{Spring, Bridge}
 use Rattle.gauge.specs.declared.Gauged.{Gauged}
 use Rattle.gauge.specs.Values.{units, Exactly}
 use Rattle.gauge.specs.Cards.{isFactor, isPin, isZero, sound}
-use Rattle.gauge.specs.Readings.{pressure, row, atPin, refusal, Gauges}
-use Rattle.gauge.specs.Steps.{Whole, refusedBy}
+use Rattle.gauge.specs.Readings.{pressure, row, atPin, refusal, refusedBy, Gauges}
+use Rattle.gauge.specs.Steps.{Whole}
 use Rattle.gauge.proofs.ExactLaws.{exactly-one, exactly-units, zero-exactly}
 use Rattle.gauge.proofs.CardLaws.{factor-is}
 use Rattle.gauge.proofs.PressureLaws.{product-small, difference-small}

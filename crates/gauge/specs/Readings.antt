@@ -3,9 +3,10 @@
 --     row z            "the pressure with its fraction dropped towards zero"
 --     atPin c n        22: "spring: the sample is negative, or the pressure is at or past the pin"
 --     refusal c n      21, 22, 23, "in that order"; 0 where the sample is read
+--     refusedBy k      refusal k: "pressure (positive zero) and row are then zero"
 --     answered c n z   z where the sample is read, 0 where it is refused
---     Gauges c n g     what is handed back: the refusal's number, "the exact pressure as a float beside the grid row";
---                      where refused, "pressure (positive zero) and row are then zero"
+--     Gauges c n g     what is handed back: the refusal's number, and "the exact pressure as a float beside the grid
+--                      row", both zero where the sample is refused
 -- Assumes nothing.
 use mathlib.Core.Path.{_≡_}
 use mathlib.Core.Bool.{Bool, false, cond, not, _||_}
@@ -13,6 +14,7 @@ use Prim.Native.Nat.{ℕ}
 use lib.Dec.{eqb}
 use lib.IntN.{ℤ, pos, _-ℤ_, _*ℤ_}
 use lib.Signed.{ltZ, leZ, quotZ}
+use lib.Ieee.{fin}
 use Rattle.grid.specs.Coordinates.{onGrid}
 use Rattle.gauge.specs.declared.Card.{Card}
 use Rattle.gauge.specs.declared.Card.the-variants.{Spring, Bridge}
@@ -36,6 +38,9 @@ atPin (Bridge gain zero) n = false
 unfoldable pub refusal : Card → ℤ → ℕ
 unfolding sound atPin pressure row
 refusal c n = cond (not (sound c)) 21 (cond (atPin c n) 22 (cond (not (onGrid (row (pressure c n)))) 23 0))
+
+abbrev pub refusedBy : ℕ → Gauged
+refusedBy k = record { refusal = k; reading = record { pressure = fin false 0 (pos 0); row = pos 0 } }
 
 abbrev pub answered : Card → ℤ → ℤ → ℤ
 answered c n z = cond (eqb (refusal c n) 0) z (pos 0)

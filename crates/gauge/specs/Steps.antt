@@ -1,15 +1,13 @@
 -- What the code tells itself on the way to a reading.
 --     Counts x u       u tells whether x is a multiple of 1/256 from -65,536 to 65,536, and how many 256ths it then is
 --     Whole p          p is a whole number of 256ths, of fewer than 2 ^ 53: as every pressure of a sound card is
---     refusedBy n      refusal n, with the positive zero and row 0
 -- Assumes nothing.
 use mathlib.Core.Path.{_≡_}
-use mathlib.Core.Bool.{false, cond}
-use Prim.Native.Nat.{ℕ, _^_, _<_}
+use mathlib.Core.Bool.{cond}
+use Prim.Native.Nat.{_^_, _<_}
 use lib.IntN.{pos, natAbs}
-use lib.Ieee.{Float, fin}
+use lib.Ieee.{Float}
 use Rattle.gauge.specs.declared.Units.{Units}
-use Rattle.gauge.specs.declared.Gauged.{Gauged}
 use Rattle.gauge.specs.Values.{units, Exactly}
 use Rattle.gauge.specs.Cards.{isZero}
 
@@ -20,6 +18,3 @@ pub record Counts (x : Float) (u : Units) : Type 0 where
 pub record Whole (p : Float) : Type 0 where
   pub exact : Exactly p (units p)
   pub small : natAbs (units p) < 2 ^ 53
-
-abbrev pub refusedBy : ℕ → Gauged
-refusedBy n = record { refusal = n; reading = record { pressure = fin false 0 (pos 0); row = pos 0 } }

@@ -8,8 +8,8 @@ ghost use Rattle.counts.specs.Scan.{Found};
 ghost use Rattle.grid.specs.Coordinates.{onGrid};
 ghost use Rattle.gauge.specs.Values.{units, Exactly};
 ghost use Rattle.gauge.specs.Cards.{powers, isPower, isFactor, isPin, isZero, sound};
-ghost use Rattle.gauge.specs.Readings.{pressure, row, atPin, Gauges};
-ghost use Rattle.gauge.specs.Steps.{Counts, Whole, refusedBy};
+ghost use Rattle.gauge.specs.Readings.{pressure, row, atPin, refusedBy, Gauges};
+ghost use Rattle.gauge.specs.Steps.{Counts, Whole};
 
 // A gauge card.
 pub enum Card {

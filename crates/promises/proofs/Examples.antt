@@ -23,8 +23,7 @@ use Rattle.question.specs.declared.Place.the-variants.{Inside, Edge, Outside}
 use Rattle.question.specs.Places.{placeOf, placed}
 use Rattle.gauge.specs.Values.{size, isMultiple, isBelow, units}
 use Rattle.gauge.specs.Cards.{isFactor, isFrom, sound}
-use Rattle.gauge.specs.Readings.{pressure, row, atPin, refusal, Gauges}
-use Rattle.gauge.specs.Steps.{refusedBy}
+use Rattle.gauge.specs.Readings.{pressure, row, atPin, refusal, refusedBy, Gauges}
 use Rattle.promises.specs.Bench.{square, lastMarkZero, bottomMarkedZero, squareWithHole, largeTriangle}
 use Rattle.promises.specs.Bench.{doubled, shifted, halved, spring, reads}
 
