@@ -1,5 +1,5 @@
 -- The card's rules as the code tests them: over how many 256ths a float is, where it is a zero's multiple of 1/256.
---     Factor x, factor-is        what a rate or a gain is: 2 ^ k 256ths, for a k below 17
+--     Factor x, factor-is, factor-most    what a rate or a gain is: 2 ^ k 256ths, for a k below 17
 --     From a b x, from-is, is-from    what a multiple from a to b is
 --     pin-counted                a pin is in the range of a zero, so the test of its count is the rule
 --     factor-counted, factor-below    and so with a rate or a gain
@@ -68,10 +68,13 @@ pub is-from : {a b : ℤ} {x : Float} → From a b x → isFrom a b x ≡ true
 unfolding isFrom
 is-from f = and-intro (and-intro (f .multiple) (f .low)) (f .high)
 
+pub factor-most : {x : Float} (f : Factor x) → 2 ^ f .power ≤ 65536
+factor-most f = le-trans (pow-mono {i = f .power} {j = 16} (omega (arith, f .least))) (lit≤ tt)
+
 factor-range : {x : Float} → Factor x → From (negℤ most) most x
 factor-range f =
-    let small = le-trans (pow-mono {i = f .power} {j = 24} (omega (arith, f .least))) (lit≤ tt) in
-    record { multiple = f .multiple; low = rw (f .is); high = rw (f .is) (le-leb (2 ^ f .power) 16777216 small) }
+    let small = le-leb (2 ^ f .power) 16777216 (omega (arith, factor-most f)) in
+    record { multiple = f .multiple; low = rw (f .is); high = rw (f .is) small }
 
 pin-range : {x : Float} → From (pos 1) most x → From (negℤ most) most x
 pin-range {x} f = record { multiple = f .multiple; low = above (units x) (f .low); high = f .high }

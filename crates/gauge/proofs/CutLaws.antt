@@ -25,7 +25,7 @@ use borrow.Author.Tests.{le-leb, eq-eqb, ne-eqb, leb-true, leb-false, eqb-true, 
 use mir.Syntax.{w64}
 use mir.Val.{toZ, ofZ}
 use mir.ValLaws.{toZ-ofZ}
-use Rattle.gauge.specs.Values.{inUnits, size, isBelow, signed, units}
+use Rattle.gauge.specs.Values.{inUnits, size, hasMinus, signed, units}
 use Rattle.gauge.specs.Cards.{isZero}
 use Rattle.gauge.specs.Steps.{Counts}
 use Rattle.gauge.proofs.FloatLaws.{eq-value, mul-value, cut-value, Castable, castable-value}
@@ -113,7 +113,7 @@ module _ (s : Bool) (m : ℕ) (e : ℤ) (t : T (fits binary64 (fin s m e))) (h :
       castable-value s n (down e) (down-pos e) (omega (arith, h, down-pos e)) (mul binary64 x scale) times
 
   cut-number : toSigned 63 (mul binary64 x scale) ≡ units x
-  unfolding units size isBelow
+  unfolding units size hasMinus
   cut-number = cut-value s n (down e) (down-pos e) (omega (arith, few)) (mul binary64 x scale) times
 
 -- ---- back to a float: its sign, but for 0

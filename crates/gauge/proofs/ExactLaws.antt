@@ -1,7 +1,7 @@
 -- Laws of `Exactly` (specs/Values.antt): a float that is z 256ths, no more and no less.
 --     value-one                two 64-bit floats of one sign and one size, as a fraction, are the same float
 --     exactly-one              so one float at most is exactly z 256ths
---     value-multiple, value-size, value-below    a float that is n 256ths in size is a multiple of 1/256, of that size
+--     value-multiple, value-size, value-minus    a float that is n 256ths in size is a multiple of 1/256, of that size
 --                              and sign
 --     exactly-multiple, exactly-size, exactly-units    it is a multiple of 1/256, and z is how many 256ths it is
 --     multiple-value           and a multiple of 1/256 has its size and sign for its value
@@ -31,7 +31,7 @@ use lib.Ieee.Nearest.{div-same}
 use borrow.Author.Tests.{lt-ltb, le-ltb, le-leb, lt-leb, eq-eqb, ne-eqb, eqb-true}
 use Rattle.counts.proofs.TestLaws.{tests, and-true, or-left, or-right, is-false, eqb-swap}
 use Rattle.counts.proofs.TestLaws.{Side, less, equal, more, side}
-use Rattle.gauge.specs.Values.{inUnits, size, isMultiple, isBelow, signed, units, Exactly}
+use Rattle.gauge.specs.Values.{inUnits, size, isMultiple, hasMinus, signed, units, Exactly}
 use Rattle.gauge.proofs.FloatLaws.{le-value, cut-value, Castable, castable-value, whole-float}
 
 abbrev isMinus : ℤ → Bool
@@ -72,9 +72,9 @@ module _ (s : Bool) (n : ℕ) where
   unfolding size
   value-size (fin u m e) v = ap (λ k. k / down e) (v .1) ∙ mul-div-cancel n (down-pos e)
 
-  pub value-below : (x : Float) → HasValue x s n 256 → isBelow x ≡ s
-  unfolding isBelow
-  value-below (fin u m e) v = v .0
+  pub value-minus : (x : Float) → HasValue x s n 256 → hasMinus x ≡ s
+  unfolding hasMinus
+  value-minus (fin u m e) v = v .0
 
 module _ {x : Float} {z : ℤ} (p : Exactly x z) where
   pub exactly-multiple : isMultiple x ≡ true
@@ -85,14 +85,14 @@ module _ {x : Float} {z : ℤ} (p : Exactly x z) where
 
   pub exactly-units : units x ≡ z
   unfolding units
-  exactly-units = rw (exactly-size, value-below (isMinus z) (natAbs z) x (p .value)) (whole z)
+  exactly-units = rw (exactly-size, value-minus (isMinus z) (natAbs z) x (p .value)) (whole z)
     where
       whole : (z : ℤ) → signed (isMinus z) (natAbs z) ≡ z
       whole (pos n) = refl
       whole (negsuc n) = refl
 
-pub multiple-value : (x : Float) → isMultiple x ≡ true → HasValue x (isBelow x) (size x) 256
-unfolding isMultiple isBelow size
+pub multiple-value : (x : Float) → isMultiple x ≡ true → HasValue x (hasMinus x) (size x) 256
+unfolding isMultiple hasMinus size
 multiple-value nan h = absurd (false≢true h)
 multiple-value (inf s) h = absurd (false≢true h)
 multiple-value (fin s m e) h =
@@ -100,7 +100,7 @@ multiple-value (fin s m e) h =
 
 pub positive-value : (x : Float) (n : ℕ) → isMultiple x ≡ true → units x ≡ pos n → 0 < n → HasValue x false n 256
 unfolding units
-positive-value x n h u some = go (isBelow x) (size x) u (multiple-value x h)
+positive-value x n h u some = go (hasMinus x) (size x) u (multiple-value x h)
   where
     none : 0 ≡ n → ⊥
     none e = omega arith
@@ -110,10 +110,10 @@ positive-value x n h u some = go (isBelow x) (size x) u (multiple-value x h)
     go true zero e v = absurd (none (ap natAbs e))
     go true (suc k) e v = absurd (false≢true (ap nonNeg e))
 
-pub units-exactly : {x : Float} → fits binary64 x ≡ true → isMultiple x ≡ true → (isBelow x ≡ true → 0 < size x)
+pub units-exactly : {x : Float} → fits binary64 x ≡ true → isMultiple x ≡ true → (hasMinus x ≡ true → 0 < size x)
     → Exactly x (units x)
 unfolding units
-units-exactly {x} f h nonzero = go (isBelow x) (size x) nonzero (multiple-value x h)
+units-exactly {x} f h nonzero = go (hasMinus x) (size x) nonzero (multiple-value x h)
   where
     go : (s : Bool) (n : ℕ) → (s ≡ true → 0 < n) → HasValue x s n 256 → Exactly x (signed s n)
     go false n l v = record { held = f; value = v }

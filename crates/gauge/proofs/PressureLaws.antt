@@ -8,21 +8,21 @@
 use mathlib.Core.Path.{_≡_, refl, sym, ap, _∙_, subst}
 use mathlib.Core.Bool.{Bool, true, false, cond, not, _&&_, false≢true}
 use Prim.Native.Nat.{ℕ, zero, suc, _+_, _-_, _*_, _^_, _≤_, _<_}
-use native.Mathlib.Nat.{le-trans, mul-pos, mul-le-mul}
+use native.Mathlib.Nat.{mul-pos, mul-le-mul}
 use native.Mathlib.Omega.{arith}
-use lib.Dec.{ltb, lit<, lit≤}
+use lib.Dec.{ltb, lit<}
 use lib.IntN.{ℤ, pos, negsuc, negℤ, natAbs, subℕ, _-ℤ_, _*ℤ_}
-use lib.Pow.{pow-mono, pow-pos}
+use lib.Pow.{pow-pos}
 use lib.Signed.{nonNeg, mag, leZ}
 use lib.Ieee.{Float, binary64, fits, mul, sub, sum, round, ofInt}
 use lib.Ieee.Back.{round-whole}
 use borrow.Author.Tests.{lt-ltb, le-ltb, ltb-true, ltb-false, leb-true}
-use Rattle.gauge.specs.Values.{size, isBelow, signed, units, Exactly}
+use Rattle.gauge.specs.Values.{size, hasMinus, signed, units, Exactly}
 use Rattle.gauge.specs.Cards.{most, isZero}
 use Rattle.gauge.proofs.FloatLaws.{mul-value, sub-value}
 use Rattle.gauge.proofs.ExactLaws.{floatOf, float-exactly, multiple-value, positive-value}
 use Rattle.gauge.proofs.RangeLaws.{zero-most}
-use Rattle.gauge.proofs.CardLaws.{Factor, From, from-is}
+use Rattle.gauge.proofs.CardLaws.{Factor, factor-most, From, from-is}
 
 -- ---- a rate, a gain and a pin are exactly their 256ths
 
@@ -66,9 +66,6 @@ product-float {x} (negsuc n) u k p e =
     below : (k : ℕ) → 0 < k → floatOf (negℤ (pos k)) ≡ round binary64 true k 256
     below zero h = absurd (none h)
     below (suc k) h = refl
-
-factor-most : {x : Float} (f : Factor x) → 2 ^ f .power ≤ 65536
-factor-most f = le-trans (pow-mono {i = f .power} {j = 16} (omega (arith, f .least))) (lit≤ tt)
 
 module _ {x : Float} (n : ℤ) (k : mag n < 32768) (f : Factor x) where
   pub product-small : natAbs (n *ℤ units x) ≤ 2147483648
@@ -150,11 +147,11 @@ abs-less (negsuc a) true (suc b) = omega (arith, abs-sub (suc b) (suc a))
 module _ (y : Float) (z : ℤ) (k : natAbs z ≤ 2147483648) (f : isZero y ≡ true) where
   pub difference-small : natAbs (z -ℤ units y) < 2 ^ 53
   unfolding units
-  difference-small = omega (arith, abs-less z (isBelow y) (size y), zero-most y f)
+  difference-small = omega (arith, abs-less z (hasMinus y) (size y), zero-most y f)
 
   pub difference-exactly : {x : Float} → Exactly x z → Exactly (sub binary64 x y) (z -ℤ units y)
   unfolding units
   difference-exactly {x} e =
       let v = multiple-value y (from-is (negℤ most) most y f .multiple) in
-      let s = sub-value (not (nonNeg z)) (isBelow y) (natAbs z) (size y) 256 (lit< tt) binary64 x y (e .value) v in
-      rw (s, sum-float z (isBelow y) (size y)) (float-exactly (z -ℤ units y) difference-small)
+      let s = sub-value (not (nonNeg z)) (hasMinus y) (natAbs z) (size y) 256 (lit< tt) binary64 x y (e .value) v in
+      rw (s, sum-float z (hasMinus y) (size y)) (float-exactly (z -ℤ units y) difference-small)

@@ -21,7 +21,7 @@ use lib.Ieee.Fits.{down-pos}
 use borrow.Author.Tests.{lt-ltb, lt-leb, ltb-true, ltb-false, leb-true, eqb-true, eqb-false}
 use Rattle.counts.proofs.TestLaws.{or-left}
 use Rattle.counts.proofs.TestLaws.{and-true as both}
-use Rattle.gauge.specs.Values.{inUnits, size, isMultiple, isBelow, signed, units}
+use Rattle.gauge.specs.Values.{inUnits, size, isMultiple, hasMinus, signed, units}
 use Rattle.gauge.specs.Cards.{most, isFrom, isZero}
 
 abbrev pub low : Float
@@ -44,7 +44,7 @@ unfolding isFrom isNear units
 zero-near x = go (isMultiple x)
   where
     go : (b : Bool) → (b && leZ (negℤ most) (units x) && leZ (units x) most) ≡ (b && leb (size x) 16777216)
-    go true = range-size (isBelow x) (size x)
+    go true = range-size (hasMinus x) (size x)
     go false = refl
 
 pub zero-most : (x : Float) → isZero x ≡ true → size x ≤ 16777216

@@ -4,7 +4,7 @@
 --     at-pin, never-pin   the test on the pin is 22's
 --     pressure-whole      a pressure of a sound card is whole, and small enough to be cast
 --     row-of-pressure, grid-of-pressure    its row, and whether that is on the grid
---     refused-21, refused-22, refused-23, read    the four returns
+--     return-21, return-22, return-23, return-read    the four returns
 --     gauges-one          a card and a sample have one answer
 --     gauges-number       its pressure is no NaN
 -- Assumes nothing.
@@ -86,23 +86,23 @@ module _ (c : Card) (n : ℤ) where
       let none : eqb (refusal c n) 0 ≡ false = ap (λ m. eqb m 0) e ∙ some in
       record { number = sym e; exact = rw none zero-exactly; place = rw none }
 
-  pub refused-21 : sound c ≡ false → Gauges c n (refusedBy 21)
+  pub return-21 : sound c ≡ false → Gauges c n (refusedBy 21)
   unfolding refusal
-  refused-21 s = refused 21 refl (rw s)
+  return-21 s = refused 21 refl (rw s)
 
-  pub refused-22 : sound c ≡ true → atPin c n ≡ true → Gauges c n (refusedBy 22)
+  pub return-22 : sound c ≡ true → atPin c n ≡ true → Gauges c n (refusedBy 22)
   unfolding refusal
-  refused-22 s a = refused 22 refl (rw (s, a))
+  return-22 s a = refused 22 refl (rw (s, a))
 
-  pub refused-23 : sound c ≡ true → atPin c n ≡ false → onGrid (row (pressure c n)) ≡ false → Gauges c n (refusedBy 23)
+  pub return-23 : sound c ≡ true → atPin c n ≡ false → onGrid (row (pressure c n)) ≡ false → Gauges c n (refusedBy 23)
   unfolding refusal
-  refused-23 s a g = refused 23 refl (rw (s, a, g))
+  return-23 s a g = refused 23 refl (rw (s, a, g))
 
-  pub read : {p : Float} {r : ℤ} → sound c ≡ true → atPin c n ≡ false → onGrid (row (pressure c n)) ≡ true
+  pub return-read : {p : Float} {r : ℤ} → sound c ≡ true → atPin c n ≡ false → onGrid (row (pressure c n)) ≡ true
       → Exactly p (pressure c n) → r ≡ row (pressure c n)
       → Gauges c n (record { refusal = 0; reading = record { pressure = p; row = r } })
   unfolding refusal
-  read {p} s a g e f =
+  return-read {p} s a g e f =
       let none : refusal c n ≡ 0 = rw (s, a, g) in
       record { number = sym none; exact = rw none e; place = rw none f }
 

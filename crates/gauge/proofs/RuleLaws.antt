@@ -18,15 +18,15 @@ use Rattle.counts.specs.Count.{listed}
 use Rattle.counts.proofs.TestLaws.{and-intro}
 use Rattle.counts.proofs.HighestLaws.{any-member}
 use Rattle.counts.proofs.ListedLaws.{mem-listed}
-use Rattle.gauge.specs.Values.{size, isBelow, units}
+use Rattle.gauge.specs.Values.{size, hasMinus, units}
 use Rattle.gauge.specs.Cards.{powers, isPower, isFactor, most, isPin, isZero}
-use Rattle.gauge.proofs.ExactLaws.{value-multiple, value-size, value-below, multiple-value, positive-value}
+use Rattle.gauge.proofs.ExactLaws.{value-multiple, value-size, value-minus, multiple-value, positive-value}
 use Rattle.gauge.proofs.RangeLaws.{isNear, zero-near, zero-most}
 use Rattle.gauge.proofs.CardLaws.{factor-is, From, from-is, is-from}
 
 value-units : (n : ℕ) (x : Float) → HasValue x false n 256 → units x ≡ pos n
 unfolding units
-value-units n x v = rw (value-size false n x v, value-below false n x v)
+value-units n x v = rw (value-size false n x v, value-minus false n x v)
 
 pub factor-rule : (x : Float) → (isFactor x ≡ true) ↔ ((k : ℕ) × (k < powers) × HasValue x false (2 ^ k) 256)
 unfolding isFactor
@@ -74,7 +74,7 @@ unfolding isNear
 zero-rule x = (there, back)
   where
     there : isZero x ≡ true → (s : Bool) × (n : ℕ) × (n ≤ 16777216) × HasValue x s n 256
-    there h = (isBelow x, size x, zero-most x h, multiple-value x (from-is (negℤ most) most x h .multiple))
+    there h = (hasMinus x, size x, zero-most x h, multiple-value x (from-is (negℤ most) most x h .multiple))
 
     back : (s : Bool) × (n : ℕ) × (n ≤ 16777216) × HasValue x s n 256 → isZero x ≡ true
     back w =

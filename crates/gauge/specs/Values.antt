@@ -6,7 +6,7 @@
 --     inUnits m e      m * 2 ^ e in 256ths, over down e
 --     size x           how many 256ths x is without its sign, what is left over cut off
 --     isMultiple x     x is a multiple of 1/256: a number, and nothing is left over
---     isBelow x        x has a minus sign
+--     hasMinus x       x has a minus sign
 --     signed s n       n, or -n where s is true
 --     units x          such an x in 256ths. Negative zero is 0
 --     Exactly x z      x is z 256ths, no more and no less: a 64-bit float that is a number, its sign that of z and its
@@ -34,17 +34,17 @@ isMultiple nan = false
 isMultiple (inf s) = false
 isMultiple (fin s m e) = eqb (inUnits m e % down e) 0
 
-unfoldable pub isBelow : Float → Bool
-isBelow nan = false
-isBelow (inf s) = s
-isBelow (fin s m e) = s
+unfoldable pub hasMinus : Float → Bool
+hasMinus nan = false
+hasMinus (inf s) = s
+hasMinus (fin s m e) = s
 
 abbrev pub signed : Bool → ℕ → ℤ
 signed s n = cond s (negℤ (pos n)) (pos n)
 
 unfoldable pub units : Float → ℤ
-unfolding size isBelow
-units x = signed (isBelow x) (size x)
+unfolding size hasMinus
+units x = signed (hasMinus x) (size x)
 
 pub record Exactly (x : Float) (z : ℤ) : Type 0 where
   pub held : fits binary64 x ≡ true

@@ -21,7 +21,7 @@ use Rattle.area.specs.declared.Area.the-variants.{Twice}
 use Rattle.area.specs.Areas.{total, share, areaOf}
 use Rattle.question.specs.declared.Place.the-variants.{Inside, Edge, Outside}
 use Rattle.question.specs.Places.{placeOf, placed}
-use Rattle.gauge.specs.Values.{size, isMultiple, isBelow, units}
+use Rattle.gauge.specs.Values.{size, isMultiple, hasMinus, units}
 use Rattle.gauge.specs.Cards.{isFactor, isFrom, sound}
 use Rattle.gauge.specs.Readings.{pressure, row, atPin, refusal, refusedBy, Gauges}
 use Rattle.promises.specs.Bench.{square, lastMarkZero, bottomMarkedZero, squareWithHole, largeTriangle}
@@ -55,7 +55,7 @@ pub starred : Starred
 unfolding sum any firstIndex listed firstFrom up recordAt precedes earlier leads squareLength segment isRecord
     touches splits within turnsLeft turnsRight straight countedFor endsAt belowPoint holds
     verdict judged placeOf placed total share areaOf
-    fits size isMultiple isBelow units isFactor isFrom sound pressure row atPin refusal
+    fits size isMultiple hasMinus units isFactor isFrom sound pressure row atPin refusal
 starred = record {
   square-accepted = refl;
   square-inside = refl;

@@ -27,7 +27,7 @@ use Rattle.grid.specs.Coordinates.{onGrid}
 use Rattle.gauge.specs.declared.Card.{Card}
 use Rattle.gauge.specs.declared.Card.the-variants.{Spring, Bridge}
 use Rattle.gauge.specs.declared.Gauged.{Gauged}
-use Rattle.gauge.specs.Values.{size, isMultiple, isBelow, units, Exactly}
+use Rattle.gauge.specs.Values.{size, isMultiple, hasMinus, units, Exactly}
 use Rattle.gauge.specs.Cards.{isFactor, isFrom, isPin, isZero, sound}
 use Rattle.gauge.specs.Readings.{pressure, row, atPin, refusal, Gauges}
 use Rattle.gauge.proofs.ExactLaws.{exactly-one, zero-exactly}
@@ -150,5 +150,5 @@ pub record NegativeZero (x : Float) : Type 0 where
   pub no-pin : isPin x ≡ false
 
 pub negative-zero : NegativeZero (fin true 0 (pos 0))
-unfolding isFrom isFactor isMultiple units size isBelow any listed
+unfolding isFrom isFactor isMultiple units size hasMinus any listed
 negative-zero = record { zero = refl; is = refl; no-factor = refl; no-pin = refl }

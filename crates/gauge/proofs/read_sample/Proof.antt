@@ -4,7 +4,7 @@ use borrow.Author.Needs.{needs}
 use mir.Syntax.{w16}
 use mir.ValLaws.{toZ-ofZ}
 use Rattle.gauge.specs.Readings.{Gauges}
-use Rattle.gauge.proofs.ReadingLaws.{refused-21}
+use Rattle.gauge.proofs.ReadingLaws.{return-21}
 use Rattle.gauge.proofs.read_sample.Statement.{statement}
 use Rattle.gauge.proofs.read_sample.Tie as tie
 
@@ -22,7 +22,7 @@ returns-2 c =
     let card = start .args .card in
     let n = start .args .sample in
     subst (Gauges card n) (sym (c .refused .ensures))
-    (refused-21 card n (sym (c .before .before .is-sound .ensures) ∙ c .before .if1 .left))
+    (return-21 card n (sym (c .before .before .is-sound .ensures) ∙ c .before .if1 .left))
 
 pub read-sample-spec : {M : Type 1} → statement M
 read-sample-spec =

@@ -8,7 +8,7 @@ use Rattle.counts.proofs.TestLaws.{not-true, not-false}
 use Rattle.grid.proofs.CoordinateLaws.{onGrid-fits}
 use Rattle.gauge.specs.Readings.{Gauges}
 use Rattle.gauge.proofs.ReadingLaws.{pressure-whole, row-of-pressure, grid-of-pressure}
-use Rattle.gauge.proofs.ReadingLaws.{refused-22, refused-23, read}
+use Rattle.gauge.proofs.ReadingLaws.{return-22, return-23, return-read}
 use Rattle.gauge.proofs.read_sound.Statement.{statement}
 use Rattle.gauge.proofs.read_sound.Tie as tie
 
@@ -29,7 +29,7 @@ returns c =
     let n = start .args .sample in
     let pin = rw (toZ-ofZ w16 n (start .fits .sample)) at (asked .is-at-pin .ensures) in
     subst (Gauges (start .args .card) n) (sym (c .refused .ensures))
-    (refused-22 (start .args .card) n (start .pre) (sym pin ∙ c .before .if1 .taken))
+    (return-22 (start .args .card) n (start .pre) (sym pin ∙ c .before .if1 .taken))
 
 returns-2 : tie.Need-returns-2
 returns-2 c =
@@ -44,7 +44,7 @@ returns-2 c =
     let pin = rw (toZ-ofZ w16 n (start .fits .sample)) at (told .before .is-at-pin .ensures) in
     let grid = rw (toZ-ofZ w64 r small) at (told .is-on-grid .ensures) in
     subst (Gauges card n) (sym (c .refused2 .ensures))
-    (refused-23 card n (start .pre) (sym pin ∙ c .before .before .if1 .left)
+    (return-23 card n (start .pre) (sym pin ∙ c .before .before .if1 .left)
     (grid-of-pressure card n r exact (placed .row-of .ensures) grid (not-true _ (c .before .if2 .taken))))
 
 cast-row : tie.Need-cast-t8
@@ -70,7 +70,7 @@ returns-3 c =
     let grid = rw (toZ-ofZ w64 r small) at (told .is-on-grid .ensures) in
     let on = not-false _ (c .if2 .left) in
     let fits : SFits w16 r = record { sfits = onGrid-fits r (sym grid ∙ on) } in
-    read card n (start .pre) (sym pin ∙ c .before .if1 .left)
+    return-read card n (start .pre) (sym pin ∙ c .before .if1 .left)
     (grid-of-pressure card n r exact (placed .row-of .ensures) grid on) exact
     (rw (toZ-ofZ w64 r small, toZ-ofZ w16 r fits) (row-of-pressure card n r exact (placed .row-of .ensures)))
 
