@@ -6,3 +6,4 @@ pub mod LeafOutcomes
 pub mod Examples
 pub mod Slips
 pub mod Gauges
+pub mod Files

@@ -1,14 +1,16 @@
--- Any two outcomes that one promise allows coincide, for each question. None writes into a lent array, so the answer is
--- all that is to be settled.
+-- Any two outcomes that one promise allows coincide, for each question. Where a question writes into a lent array, so
+-- does what the array then holds.
 --     same-check, same-point, same-nearest-below, same-inside-by-mark, same-area2    the answer
 --     point-by-mark     and what `point` and `inside_by_mark` answer is one
 --     same-read-sample  the refusal's number, the pressure as a float and the row, for every card and sample
+--     same-read         the answer and the lent array, for every file and array
+--     same-take-number, same-signed-of    one number of a file
 --     same-corner, same-run-at, same-smaller-head               the part: its numbers, the array it lies in, its place
 -- Assumes nothing.
 use mathlib.Core.Path.{_≡_, sym, _∙_}
 use mathlib.Core.List.{List}
 use Prim.Native.Nat.{ℕ}
-use denote.Ref.{RefT}
+use denote.Ref.{RefT, now}
 use lib.IntN.{ℤ}
 use contract.Lifetimes.{Lfts}
 use denote.Triple.Clauses.{AtExit}
@@ -32,13 +34,21 @@ use Rattle.area.proofs.area2.Kinds as area2-kinds
 use Rattle.area.proofs.area2.Reads as area2
 use Rattle.gauge.proofs.read_sample.Kinds as read-sample-kinds
 use Rattle.gauge.proofs.read_sample.Reads as read-sample
+use Rattle.file.specs.declared.Answer.{Answer}
+use Rattle.number.specs.declared.Number.{Number}
+use Rattle.file.proofs.read.Kinds as read-kinds
+use Rattle.file.proofs.read.Reads as read
+use Rattle.number.proofs.take_number.Kinds as take-number-kinds
+use Rattle.number.proofs.take_number.Reads as take-number
+use Rattle.number.proofs.signed_of.Kinds as signed-of-kinds
+use Rattle.number.proofs.signed_of.Reads as signed-of
 use Rattle.question.proofs.corner.Kinds as corner-kinds
 use Rattle.question.proofs.corner.Reads as corner
 use Rattle.parts.proofs.run_at.Kinds as run-at-kinds
 use Rattle.parts.proofs.run_at.Reads as run-at
 use Rattle.parts.proofs.smaller_head.Kinds as smaller-head-kinds
 use Rattle.parts.proofs.smaller_head.Reads as smaller-head
-use Rattle.promises.proofs.Settled.{Settled, SamePart, SettledPart}
+use Rattle.promises.proofs.Settled.{Settled, SamePart, SettledPart, SettledLent}
 
 -- ---- chart
 
@@ -71,6 +81,17 @@ same-area2 κs a v w s t h k = h ∙ sym k
 -- the contract says what the pressure's value is, and one 64-bit float has that value
 pub same-read-sample : Settled 0 read-sample-kinds.ps read-sample-kinds.r Gauged read-sample.Post
 same-read-sample κs a v w s t h k = gauges-one h k
+
+-- ---- file
+
+pub same-read : SettledLent 2 read-kinds.ps read-kinds.r Answer (λ κs s. now (s .1 .0)) read.Post
+same-read κs a v w s t h k = (h .says ∙ sym (k .says), h .leaves ∙ sym (k .leaves))
+
+pub same-take-number : Settled 1 take-number-kinds.ps take-number-kinds.r Number take-number.Post
+same-take-number κs a v w s t h k = h ∙ sym k
+
+pub same-signed-of : Settled 0 signed-of-kinds.ps signed-of-kinds.r ℤ signed-of.Post
+same-signed-of κs a v w s t h k = h ∙ sym k
 
 -- ---- parts of an array
 

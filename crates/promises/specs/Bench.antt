@@ -4,6 +4,7 @@
 --     bottomMarkedZero   the same with both halves of the bottom side marked 0
 --     squareWithHole     the square plus the hole (0,0), (2,1), (1,2)
 --     largeTriangle      (-32768,-32768), (32767,-32768), (-32768,32767)
+--     squareFile         document 01's file of the square, byte by byte
 --     zero, half, one, two, thousand    as floats: m * 2 ^ e
 --     doubled, shifted, halved    bridges: gain 2, zero 0; gain 1, zero 1; gain 0.5, zero 0
 --     spring             rate 1, pin 1,000
@@ -11,6 +12,7 @@
 -- Assumes nothing.
 use mathlib.Core.Bool.{false}
 use mathlib.Core.List.{List, [], _∷_}
+use Prim.Native.Nat.{ℕ}
 use lib.IntN.{ℤ, pos, negsuc}
 use lib.Ieee.{Float, fin}
 use Rattle.gauge.specs.declared.Card.{Card}
@@ -27,6 +29,19 @@ square =
     ∷ pos 4 ∷ pos 0 ∷ pos 4 ∷ pos 4 ∷ pos 1
     ∷ pos 4 ∷ pos 4 ∷ pos 0 ∷ pos 4 ∷ pos 0
     ∷ pos 4 ∷ pos 4 ∷ pos 4 ∷ pos 0 ∷ pos 1
+    ∷ []
+
+abbrev pub squareFile : List ℕ
+squareFile =
+    8
+    ∷ 0 ∷ 0 ∷ 8 ∷ 0 ∷ 1
+    ∷ 0 ∷ 0 ∷ 0 ∷ 8 ∷ 0
+    ∷ 0 ∷ 8 ∷ 0 ∷ 0 ∷ 0
+    ∷ 0 ∷ 8 ∷ 8 ∷ 8 ∷ 0
+    ∷ 8 ∷ 0 ∷ 0 ∷ 0 ∷ 1
+    ∷ 8 ∷ 0 ∷ 8 ∷ 8 ∷ 1
+    ∷ 8 ∷ 8 ∷ 0 ∷ 8 ∷ 0
+    ∷ 8 ∷ 8 ∷ 8 ∷ 0 ∷ 1
     ∷ []
 
 abbrev pub lastMarkZero : List ℤ

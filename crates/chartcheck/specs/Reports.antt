@@ -1,0 +1,33 @@
+-- What the program says of a file (document 01: "It reads the file, checks the chart and writes one line").
+--     room             how many numbers its array holds: five for each of the most records that a chart may have
+--     chartReport s    of a chart s: how many records it has, and twice its area; or the chart's refusal
+--     report bytes     of a file: the file's refusal, or what its chart is said to be
+-- Assumes nothing.
+use mathlib.Core.List.{List}
+use Prim.Native.Nat.{ℕ, _*_}
+use lib.IntN.{ℤ}
+use Rattle.record.specs.Records.{width, recordCount}
+use Rattle.chart.specs.Verdicts.{limit}
+use Rattle.area.specs.declared.Area.{Area}
+use Rattle.area.specs.declared.Area.the-variants as area
+use Rattle.area.specs.Areas.{areaOf}
+use Rattle.file.specs.Files.{Taken, taken, refused, fileOf}
+use Rattle.chartcheck.specs.declared.Report.{Report}
+use Rattle.chartcheck.specs.declared.Report.the-variants.{Sound, Refused}
+
+abbrev pub room : ℕ
+room = width * limit
+
+abbrev pub areaReport : ℕ → Area → Report
+areaReport n (area.Twice z) = Sound n z
+areaReport n (area.Refused r) = Refused r
+
+unfoldable pub chartReport : List ℤ → Report
+chartReport s = areaReport (recordCount s) (areaOf s)
+
+abbrev pub takenReport : Taken → Report
+takenReport (taken zs at) = chartReport zs
+takenReport (refused r) = Refused r
+
+unfoldable pub report : List ℕ → Report
+report bytes = takenReport (fileOf bytes room)

@@ -1,0 +1,11 @@
+pub mod FieldLaws
+pub mod PassLaws
+pub mod FileLaws
+pub mod StepLaws
+pub mod TakenLaws
+pub mod AnswerLaws
+pub mod RefusalLaws
+pub mod LengthLaws
+pub mod BufferLaws
+pub mod ManyLaws
+pub mod LongestLaws

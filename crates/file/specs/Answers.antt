@@ -1,0 +1,33 @@
+-- What reading a chart file answers and leaves (document 01: "The array is written only on success, five numbers per
+-- record; places beyond stay"). t is what was taken from the file (specs/Files.antt).
+--     answerOf t           the answer: how many records were read, or the refusal
+--     readRefusal a        the paper's number and place for each case: 0 and 0 where the file is read
+--     contents t lent      what the lent array holds then
+--     Reads t lent out a   the answer is a, and the array that was `lent` is then `out`
+-- Assumes nothing.
+use mathlib.Core.Path.{_≡_}
+use mathlib.Core.List.{List, _++_}
+use lib.IntN.{ℤ}
+use lib.ListN.{length, drop}
+use Rattle.record.specs.Records.{recordCount}
+use Rattle.chart.specs.declared.Refusal.{Refusal}
+use Rattle.chart.specs.Verdicts.{noRefusal}
+use Rattle.file.specs.declared.Answer.{Answer}
+use Rattle.file.specs.declared.Answer.the-variants.{Records, Refused}
+use Rattle.file.specs.Files.{Taken, taken, refused}
+
+abbrev pub answerOf : Taken → Answer
+answerOf (taken zs at) = Records (recordCount zs)
+answerOf (refused r) = Refused r
+
+abbrev pub readRefusal : Answer → Refusal
+readRefusal (Records n) = noRefusal
+readRefusal (Refused r) = r
+
+abbrev pub contents : Taken → List ℤ → List ℤ
+contents (taken zs at) lent = zs ++ drop (length zs) lent
+contents (refused r) lent = lent
+
+pub record Reads (t : Taken) (lent out : List ℤ) (a : Answer) : Type 0 where
+  pub says : a ≡ answerOf t
+  pub leaves : out ≡ contents t lent

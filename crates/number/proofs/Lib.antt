@@ -1,0 +1,4 @@
+pub mod NumberLaws
+pub mod GroupLaws
+pub mod SignedLaws
+pub mod SizeLaws

@@ -1,0 +1,196 @@
+//! A judge from outside, of chart files: document 01's rules for reading them, written from its sentences with wide
+//! integers, and compared with what the program `probefile` answers over the proved library.
+//!
+//!     files PROBE [FILES [SEED]]
+//!
+//! It shares nothing with the library but the questions. It asks about listed files, then about FILES drawn ones, and
+//! compares the whole of the lent array. Its own answers are held to the papers' examples, to how a file was spoiled,
+//! and to a writer: what is read gives the same bytes when it is written again. It tells how often each answer came
+//! up; the last line is 'N passed, M failed', by files.
+
+mod judging {
+    pub mod asking;
+    pub mod files;
+    pub mod questions;
+    pub mod spoils;
+}
+
+use judging::asking::{ask, count, Dice};
+use judging::files::{parts, read, Answer};
+use judging::questions::{changed_squares, examples, long, numbers, small, squares, Question, BYTES, NUMBERS};
+
+/// How many bytes of questions the program takes at once.
+const TAKEN: usize = 65536;
+
+/// How many bytes of an answer stand before the array's numbers.
+const FRONT: usize = 5;
+
+/// So many drawn files are asked about before it is told how far this is.
+const TOLD: usize = 100_000;
+
+/// So many disagreements are shown.
+const SHOWN: usize = 5;
+
+// ---- questions and answers
+
+/// The number at a place of the array before it is lent.
+fn before(at: usize) -> [u8; 2] {
+    ((40503 * at + 12345) as u16).to_le_bytes()
+}
+
+impl Question {
+    fn bytes(&self) -> Vec<u8> {
+        assert!(self.room <= NUMBERS && self.file.len() <= BYTES, "the program takes no more");
+        let lengths = [self.room, self.file.len()].map(|n| (n as u16).to_le_bytes());
+        [&lengths.concat(), &self.file[..]].concat()
+    }
+
+    /// "The array is written only on success, five numbers per record; places beyond stay."
+    fn answer(&self, own: &Answer) -> Vec<u8> {
+        let (number, n, written) = match own {
+            Ok(numbers) => (0, numbers.len() / 5, &numbers[..]),
+            Err((number, place)) => (*number, *place, &[][..]),
+        };
+        let array = written.iter().map(|&v| count(v)).chain((written.len()..self.room).map(before));
+        [number].into_iter().chain((n as u32).to_le_bytes()).chain(array.flatten()).collect()
+    }
+
+    /// What is known of the file, or the writer, says against an answer.
+    fn objection(&self, own: &Answer) -> Option<String> {
+        if let Some(known) = self.known.as_ref().filter(|&known| known != own) {
+            return Some(format!("known is {}", told(known)));
+        }
+        let again = own.as_ref().map(|numbers| parts(numbers).concat()).ok()?;
+        (again != self.file).then(|| format!("written again it is {again:02x?}"))
+    }
+}
+
+fn told(answer: &Answer) -> String {
+    match answer {
+        Ok(numbers) => format!("{numbers:?}"),
+        Err((number, place)) => format!("{number} at {place}"),
+    }
+}
+
+/// Where the bytes of an answer are not the wanted ones.
+fn difference(wanted: &[u8], got: &[u8]) -> String {
+    let Some((&[number, ref n @ ..], _)) = got.split_first_chunk::<FRONT>() else {
+        return "nothing".to_string();
+    };
+    let same = wanted.iter().zip(got).take_while(|(a, b)| a == b).count();
+    match (same, number) {
+        (FRONT.., _) => format!("an array that is another at {}", (same - FRONT) / 2),
+        (_, 0) => format!("{} records", u32::from_le_bytes(*n)),
+        _ => format!("{number} at {}", u32::from_le_bytes(*n)),
+    }
+}
+
+// ---- judging
+
+#[derive(Default)]
+struct Judge {
+    probe: String,
+    passed: usize,
+    failed: usize,
+    /// how many files were read
+    read: usize,
+    /// how many were refused by 31 to 36
+    refused: [usize; 6],
+}
+
+impl Judge {
+    fn fail(&mut self, what: String) {
+        self.failed += 1;
+        if self.failed <= SHOWN {
+            println!("{what}");
+        }
+    }
+
+    /// Takes the answer to a question off the bytes, and says what is not as wanted.
+    fn disagreement(&mut self, q: &Question, rest: &mut &[u8]) -> Option<String> {
+        let own = read(&q.file, q.room);
+        match own {
+            Ok(_) => self.read += 1,
+            Err((number, _)) => self.refused[number as usize - 31] += 1,
+        }
+        let wanted = q.answer(&own);
+        let (got, left) = rest.split_at(wanted.len().min(rest.len()));
+        *rest = left;
+        let what = match q.objection(&own) {
+            Some(what) => format!("two readings of document 01 differ: {what}"),
+            None if got == &wanted[..] => return None,
+            None => format!("got {}", difference(&wanted, got)),
+        };
+        Some(format!("{:02x?}, room {}: wanted {}; {what}", q.file, q.room, told(&own)))
+    }
+
+    fn judge(&mut self, questions: &[Question]) {
+        let answers = ask(&self.probe, &questions.iter().flat_map(Question::bytes).collect::<Vec<u8>>());
+        let mut rest = &answers[..];
+        for q in questions {
+            match self.disagreement(q, &mut rest) {
+                None => self.passed += 1,
+                Some(what) => self.fail(what),
+            }
+        }
+        if !rest.is_empty() {
+            self.fail(format!("{} bytes were answered that nothing asked for", rest.len()));
+        }
+    }
+
+    /// As many at once as the program takes.
+    fn judge_all(&mut self, questions: impl Iterator<Item = Question>) {
+        let (mut batch, mut used) = (vec![], 0);
+        for q in questions {
+            let size = q.bytes().len();
+            if used + size > TAKEN {
+                self.judge(&batch);
+                batch.clear();
+                used = 0;
+            }
+            used += size;
+            batch.push(q);
+        }
+        self.judge(&batch);
+    }
+
+    fn judge_listed(&mut self) {
+        self.judge_all(examples().into_iter());
+        self.judge_all(squares());
+        self.judge_all(changed_squares());
+        self.judge_all(long());
+        self.judge_all(numbers());
+        self.judge_all(small());
+    }
+
+    fn judge_drawn(&mut self, total: usize, mut dice: Dice) {
+        for asked in (0..total).step_by(TOLD) {
+            let upto = total.min(asked + TOLD);
+            self.judge_all((asked..upto).map(|_| dice.question()));
+            if upto % TOLD == 0 {
+                eprintln!("{upto} of {total} drawn files");
+            }
+        }
+    }
+
+    fn report(&mut self) {
+        let by: Vec<String> = self.refused.iter().zip(31..).map(|(n, number)| format!("{n} by {number}")).collect();
+        println!("files: {} read; refused: {}", self.read, by.join(", "));
+        if self.read == 0 || self.refused.contains(&0) {
+            self.fail("one of these answers never came up".to_string());
+        }
+        println!("{} passed, {} failed", self.passed, self.failed);
+    }
+}
+
+fn main() {
+    let args: Vec<String> = std::env::args().collect();
+    let probe = args.get(1).expect("files PROBE [FILES [SEED]]");
+    let total = args.get(2).map_or(20_000, |s| s.parse().expect("a number of files"));
+    let dice = Dice(args.get(3).map_or(1, |s| s.parse().expect("a seed")));
+    let mut judge = Judge { probe: probe.clone(), ..Judge::default() };
+    judge.judge_listed();
+    judge.judge_drawn(total, dice);
+    judge.report();
+    std::process::exit(if judge.failed == 0 { 0 } else { 1 });
+}
