@@ -1,5 +1,6 @@
 // What the library answers on document 01's bench examples and at the edges of the check, one line each. The gate
 // compares the lines with the file stdout.
+mod files;
 mod gauges;
 
 use area::Area;
@@ -20,6 +21,7 @@ fn main() {
     two_faults();
     two_kinds();
     gauges::about_gauges();
+    files::about_files();
 }
 
 // ---- writing

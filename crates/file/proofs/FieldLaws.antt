@@ -1,5 +1,6 @@
 -- What a number of a file gives the array, by what the code has seen of it. A law for each return of `mark_of`,
--- `coordinate_of`, `field_of` and `field_at`; `fielding` has them all.
+-- `coordinate_of`, `field_of` and `field_at`; `fielding` has them all. A bound k is any that refuses no more, so that a wrong
+-- one is refused for what it lets through.
 -- Assumes nothing.
 use mathlib.Core.Path.{_≡_, refl, sym, ap, _∙_}
 use mathlib.Core.Bool.{Bool, true, false, cond}
@@ -26,8 +27,8 @@ use Rattle.number.specs.Numbers.{numberAt, signed}
 use Rattle.file.specs.Fields.{refused, coordinate, mark, field, fieldAt}
 
 module _ (n at next : ℕ) where
-  pub mark-unfit : {f : Field} → 1 < n → f ≡ refused at → f ≡ mark n at next
-  mark-unfit h e = rw (lt-leb n 1 h) e
+  pub mark-unfit : (k : ℕ) {f : Field} → 1 ≤ k → k < n → f ≡ refused at → f ≡ mark n at next
+  mark-unfit k l h e = rw (lt-leb n 1 (omega arith)) e
 
   pub mark-value : n ≤ 1 → Value (toZ w16 n) next ≡ mark n at next
   mark-value h = rw (le-leb n 1 h, toZ-pos w16 n (omega arith)) refl

@@ -1,5 +1,5 @@
 -- A whole file, by what the code has seen of it. A law for each return of `read_records` and `read`; `reading` has them
--- all.
+-- all. A bound k is any that refuses no more, so that a wrong one is refused for what it lets through.
 --     endOf-taken      numbers that end somewhere can all be taken
 --     fields-length    and are as many as were asked for
 -- Assumes nothing.
@@ -98,9 +98,10 @@ module _ (s : List ℕ) (lent : List ℤ) {c : Number} (is : c ≡ numberAt s 0)
   file-refused h = rw (← is, h) (record { says = refl; leaves = refl })
 
   module _ {n next : ℕ} (h : c ≡ number.Value n next) {a : Answer} where
-    pub file-above : limit < n → a ≡ answerOf (refusedBy 35 0) → Reads (fileOf s (length lent)) lent lent a
+    pub file-above : (k : ℕ) → limit ≤ k → k < n → a ≡ answerOf (refusedBy 35 0)
+        → Reads (fileOf s (length lent)) lent lent a
     unfolding fileOf
-    file-above l e = rw (← is, h, lt-ltb limit n l) (record { says = e; leaves = refl })
+    file-above k l g e = rw (← is, h, lt-ltb limit n (omega arith)) (record { says = e; leaves = refl })
 
     pub file-short : n ≤ limit → length lent < width * n → a ≡ answerOf (refusedBy 36 0)
         → Reads (fileOf s (length lent)) lent lent a
