@@ -20,7 +20,7 @@ use record::record_at;
 // How many records a chart may have.
 pub const LIMIT: usize = 512;
 
-// Why a chart is turned away: document 01's number, and the index of the record at fault.
+// Why a question is refused: document 01's number, and the record at fault, or the place in a file, that it names.
 pub struct Refusal {
     pub number: u16,
     pub index: usize,

@@ -1,10 +1,9 @@
 // Reads a chart file from standard input and says in one line what it is:
 //     sound records 8 area2 32     a sound chart: how many records it has, and twice its area
 //     refused 31 at 0              document 01's refusal, and its place in the file or the record at fault
-// At most 8,192 bytes are read. The longest file that can be taken has 6,658, so bytes past the buffer change no
-// answer: `buffered` (proofs/BufferLaws.antt).
+// At most 8,192 bytes are read. The longest file that can be taken has 6,658, so bytes past the buffer change nothing:
+// `report-buffered` (proofs/ReportLaws.antt).
 ghost use mathlib.Core.Path.{_≡_};
-ghost use Prim.Native.Nat.{_≤_};
 ghost use Rattle.chartcheck.specs.Reports.{report, chartReport};
 use area::Area;
 use chart::Refusal;

@@ -1,12 +1,11 @@
 -- What a caller of `read` knows by its contract.
---     Took s room lent out n   n records of the file s now stand at the beginning of the array, which has room for them,
---                              and places beyond are as they were
+--     Took s room lent out n   n records of the file s now stand at the beginning of the array, which has room for
+--                              them, and places beyond are as they were
 --     reads-took               so it is where the answer is n records
 --     reads-refused, reads-untouched    a refusal is the file's, and the array is as it was
 -- Assumes nothing.
 use mathlib.Core.Path.{_≡_, refl, sym, ap, _∙_}
-use mathlib.Core.Bool.{true}
-use mathlib.Core.List.{List, _++_}
+use mathlib.Core.List.{List}
 use Prim.Native.Nat.{ℕ, _*_, _/_, _≤_}
 use native.Mathlib.Omega.{arith}
 use lib.IntN.{ℤ}
@@ -17,7 +16,7 @@ use Rattle.chart.specs.declared.Refusal.{Refusal}
 use Rattle.chart.specs.Verdicts.{limit}
 use Rattle.file.specs.declared.Answer.{Answer}
 use Rattle.file.specs.declared.Answer.the-variants.{Records, Refused}
-use Rattle.file.specs.Files.{Taken, taken, refused, fields, fileOf}
+use Rattle.file.specs.Files.{Taken, taken, refused, fileOf}
 use Rattle.file.specs.Answers.{answerOf, contents, Reads}
 use Rattle.file.specs.Steps.{isTaken}
 use Rattle.file.proofs.FileLaws.{fields-length}
@@ -41,7 +40,7 @@ fileOf-length s room end zs e =
 not-records : {r : Refusal} {n : ℕ} → Records n ≡ Refused r → ⊥
 not-records e = let o : _≡_ {A = ℕ} 0 1 = cc in omega arith
 
-pub reads-took : (s : List ℕ) (lent out : List ℤ) {n : ℕ} {a : Answer} → Reads (fileOf s (length lent)) lent out a
+pub reads-took : (s : List ℕ) (lent out : List ℤ) {n : ℕ} {a : Answer} → Reads s lent out a
     → a ≡ Records n → Took s (length lent) lent out n
 reads-took s lent out {n} r e = go (fileOf s (length lent)) refl (sym e ∙ r .says) (r .leaves)
   where
@@ -59,14 +58,14 @@ reads-took s lent out {n} r e = go (fileOf s (length lent)) refl (sym e ∙ r .s
         record { end = end; is = h ∙ ap (λ ys. taken ys end) (sym whole); few = few; fits = fits; beyond = beyond }
     go (refused q) h m w = absurd (not-records m)
 
-pub reads-refused : (s : List ℕ) (room : ℕ) (lent out : List ℤ) {q : Refusal} {a : Answer}
-    → Reads (fileOf s room) lent out a → a ≡ Refused q → fileOf s room ≡ refused q
-reads-refused s room lent out {q} r e = go (fileOf s room) refl (sym e ∙ r .says)
+pub reads-refused : (s : List ℕ) (lent out : List ℤ) {q : Refusal} {a : Answer} → Reads s lent out a → a ≡ Refused q
+    → fileOf s (length lent) ≡ refused q
+reads-refused s lent out {q} r e = go (fileOf s (length lent)) refl (sym e ∙ r .says)
   where
-    go : (t : Taken) → fileOf s room ≡ t → Refused q ≡ answerOf t → fileOf s room ≡ refused q
+    go : (t : Taken) → fileOf s (length lent) ≡ t → Refused q ≡ answerOf t → fileOf s (length lent) ≡ refused q
     go (taken zs end) h m = absurd (not-records (sym m))
     go (refused x) h m = cc
 
 pub reads-untouched : (s : List ℕ) (lent out : List ℤ) {q : Refusal} {a : Answer}
-    → Reads (fileOf s (length lent)) lent out a → a ≡ Refused q → out ≡ lent
-reads-untouched s lent out r e = rw (reads-refused s (length lent) lent out r e) at (r .leaves)
+    → Reads s lent out a → a ≡ Refused q → out ≡ lent
+reads-untouched s lent out r e = rw (reads-refused s lent out r e) at (r .leaves)

@@ -1,14 +1,14 @@
 -- What a number of a file gives the array, by what the code has seen of it. A law for each return of `mark_of`,
--- `coordinate_of`, `field_of` and `field_at`; `fielding` has them all. A bound k is any that refuses no more, so that a wrong
--- one is refused for what it lets through.
+-- `coordinate_of`, `field_of` and `field_at`; `fielding` has them all. A bound k is any that refuses no more, so that a
+-- wrong one is refused for what it lets through.
 -- Assumes nothing.
-use mathlib.Core.Path.{_≡_, refl, sym, ap, _∙_}
+use mathlib.Core.Path.{_≡_, refl}
 use mathlib.Core.Bool.{Bool, true, false, cond}
 use mathlib.Core.List.{List}
 use Prim.Native.Nat.{ℕ, _%_, _^_, _≤_, _<_}
 use native.Mathlib.Omega.{arith}
 use borrow.Author.Tests.{le-leb, lt-leb, eq-eqb, ne-eqb}
-use lib.IntN.{ℤ, pos}
+use lib.IntN.{ℤ}
 use lib.Signed.{mag}
 use mir.Syntax.{w16, w64}
 use mir.Val.{SFits, toZ, ofZ}

@@ -4,8 +4,8 @@
 --     fields-length    and are as many as were asked for
 -- Assumes nothing.
 use mathlib.Core.Path.{_≡_, refl, sym, ap, _∙_}
-use mathlib.Core.Bool.{Bool, true, false, true≢false}
-use mathlib.Core.List.{List, [], _∷_}
+use mathlib.Core.Bool.{true, false, true≢false}
+use mathlib.Core.List.{List}
 use Prim.Native.Nat.{ℕ, zero, suc, _*_, _≤_, _<_}
 use native.Mathlib.Omega.{arith}
 use borrow.Author.Tests.{lt-ltb, le-ltb}
@@ -26,7 +26,7 @@ use Rattle.number.specs.Numbers.{numberAt}
 use Rattle.file.specs.Fields.{fieldAt}
 use Rattle.file.specs.Files.{Taken, taken, refused, refusedBy, onto, after, fields, recordsOf}
 use Rattle.file.specs.Files.{fileOf}
-use Rattle.file.specs.Answers.{answerOf, contents, Reads}
+use Rattle.file.specs.Answers.{answerOf, contents, Gives, Reads}
 use Rattle.file.specs.Steps.{isTaken, endOf}
 
 -- ---- how many
@@ -71,17 +71,17 @@ endOf-taken t {at} h e = rw (endOf-at t at (sym h ∙ e) .1) refl
 
 module _ (s : List ℕ) (n from : ℕ) (lent : List ℤ) {e : End} (is : e ≡ endOf (fields s 0 (width * n) from)) where
   pub records-left-over : {at : ℕ} {a : Answer} → e ≡ end.At at → at < length s → a ≡ answerOf (refusedBy 34 at)
-      → Reads (recordsOf s n from) lent lent a
+      → Gives (recordsOf s n from) lent lent a
   records-left-over {at} h over a =
       let t = fields s 0 (width * n) from in
       rw (endOf-at t at (sym is ∙ h) .1, lt-ltb at (length s) over) (record { says = a; leaves = refl })
 
-  pub records-refused : {r : Refusal} → e ≡ end.Refused r → Reads (recordsOf s n from) lent lent (answer.Refused r)
+  pub records-refused : {r : Refusal} → e ≡ end.Refused r → Gives (recordsOf s n from) lent lent (answer.Refused r)
   records-refused {r} h =
       rw (endOf-refused (fields s 0 (width * n) from) r (sym is ∙ h)) (record { says = refl; leaves = refl })
 
   pub records-read : {at : ℕ} {out : List ℤ} → e ≡ end.At at → length s ≤ at
-      → out ≡ contents (fields s 0 (width * n) from) lent → Reads (recordsOf s n from) lent out (answer.Records n)
+      → out ≡ contents (fields s 0 (width * n) from) lent → Gives (recordsOf s n from) lent out (answer.Records n)
   records-read {at} h over w =
       let t = fields s 0 (width * n) from in
       let whole = endOf-at t at (sym is ∙ h) .1 in
@@ -93,24 +93,24 @@ module _ (s : List ℕ) (n from : ℕ) (lent : List ℤ) {e : End} (is : e ≡ e
 
 module _ (s : List ℕ) (lent : List ℤ) {c : Number} (is : c ≡ numberAt s 0) where
   pub file-refused : {r : Refusal} → c ≡ number.Refused r
-      → Reads (fileOf s (length lent)) lent lent (answer.Refused r)
+      → Reads s lent lent (answer.Refused r)
   unfolding fileOf
   file-refused h = rw (← is, h) (record { says = refl; leaves = refl })
 
   module _ {n next : ℕ} (h : c ≡ number.Value n next) {a : Answer} where
     pub file-above : (k : ℕ) → limit ≤ k → k < n → a ≡ answerOf (refusedBy 35 0)
-        → Reads (fileOf s (length lent)) lent lent a
+        → Reads s lent lent a
     unfolding fileOf
     file-above k l g e = rw (← is, h, lt-ltb limit n (omega arith)) (record { says = e; leaves = refl })
 
     pub file-short : n ≤ limit → length lent < width * n → a ≡ answerOf (refusedBy 36 0)
-        → Reads (fileOf s (length lent)) lent lent a
+        → Reads s lent lent a
     unfolding fileOf
     file-short l m e =
         rw (← is, h, le-ltb limit n l, lt-ltb (length lent) (width * n) m) (record { says = e; leaves = refl })
 
-    pub file-records : {out : List ℤ} → n ≤ limit → width * n ≤ length lent → Reads (recordsOf s n next) lent out a
-        → Reads (fileOf s (length lent)) lent out a
+    pub file-records : {out : List ℤ} → n ≤ limit → width * n ≤ length lent → Gives (recordsOf s n next) lent out a
+        → Reads s lent out a
     unfolding fileOf
     file-records l m e = rw (← is, h, le-ltb limit n l, le-ltb (length lent) (width * n) m) e
 

@@ -55,7 +55,8 @@ module _ (s bs : List ℕ) (k at : ℕ) where
       → (fieldAt s k at ≡ Value (negsuc 32767) (at + 3)) × (drop (at + 3) s ≡ bs)
   unfolding firstGroup field signed
   coordinate-taken l e = (
-    ap (λ bs. fieldIn k at (numberIn bs at)) e ∙ rw (numberIn-groups (255 ∷ 255 ∷ 3 ∷ bs) at, ne-eqb (k % width) 4 (λ h. omega arith)),
+    ap (λ bs. fieldIn k at (numberIn bs at)) e
+        ∙ rw (numberIn-groups (255 ∷ 255 ∷ 3 ∷ bs) at, ne-eqb (k % width) 4 (λ h. omega arith)),
     sym (drop-drop 3 at s) ∙ ap (drop 3) e,
   )
 

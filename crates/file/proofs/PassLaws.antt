@@ -4,9 +4,9 @@
 --     Filling       what the loop of `fill` holds: k numbers of the array are as they will be, the rest as they were
 -- Assumes nothing.
 use mathlib.Core.Path.{_≡_, refl, sym, ap, _∙_}
-use mathlib.Core.Bool.{Bool, true, false, true≢false}
-use mathlib.Core.List.{List, [], _∷_, _++_}
-use Prim.Native.Nat.{ℕ, zero, suc, _+_, _-_, _≤_, _<_}
+use mathlib.Core.Bool.{true, false, true≢false}
+use mathlib.Core.List.{List, _∷_, _++_}
+use Prim.Native.Nat.{ℕ, suc, _+_, _-_, _≤_, _<_}
 use native.Mathlib.Nat.{sub-zero}
 use native.Mathlib.Numerals.{add-one}
 use native.Mathlib.Omega.{arith}
@@ -48,13 +48,15 @@ isTaken-onto : (z : ℤ) (t : Taken) → isTaken (onto z t) ≡ isTaken t
 isTaken-onto z (taken zs at) = refl
 isTaken-onto z (refused r) = refl
 
-contents-onto : (z x : ℤ) (t : Taken) (out : List ℤ) → isTaken t ≡ true → contents (onto z t) (x ∷ out) ≡ z ∷ contents t out
+contents-onto : (z x : ℤ) (t : Taken) (out : List ℤ) → isTaken t ≡ true
+    → contents (onto z t) (x ∷ out) ≡ z ∷ contents t out
 contents-onto z x (taken zs at) out h = refl
 contents-onto z x (refused r) out h = absurd (true≢false (sym h))
 
 -- a number stored at the place k is one number of the array more that is as it will be
 store : (out : List ℤ) (k : ℕ) (z : ℤ) (t : Taken) → k < length out → isTaken t ≡ true
-    → take k out ++ contents (onto z t) (drop k out) ≡ take (k + 1) (set out k z) ++ contents t (drop (k + 1) (set out k z))
+    → take k out ++ contents (onto z t) (drop k out)
+    ≡ take (k + 1) (set out k z) ++ contents t (drop (k + 1) (set out k z))
 store out k z t h whole =
     let after = drop (suc k) out in
     rw (
@@ -79,7 +81,8 @@ module _ (s : List ℕ) (m from : ℕ) where
   module _ {at k : ℕ} {f : Field} (p : Passing s m from at k) (h : k < m) (is : f ≡ fieldAt s k at) where
     pub passing-more : {z : ℤ} {next : ℕ} → f ≡ Value z next → Passing s m from next (k + 1)
     passing-more {z} {next} e =
-        record { low = omega arith; is = p .is ∙ ap endOf (fields-value s k m at h is e) ∙ endOf-onto z (fields s (k + 1) (m - (k + 1)) next) }
+        let rest = fields s (k + 1) (m - (k + 1)) next in
+        record { low = omega arith; is = p .is ∙ ap endOf (fields-value s k m at h is e) ∙ endOf-onto z rest }
 
     pub passing-refused : {r : Refusal} → f ≡ Refused r → end.Refused r ≡ endOf (fields s 0 m from)
     passing-refused e = sym (p .is ∙ ap endOf (fields-refused s k m at h is e))
@@ -99,9 +102,12 @@ pub record Filling (s : List ℕ) (m from : ℕ) (lent out : List ℤ) (at k : �
 
 module _ (s : List ℕ) (m from : ℕ) (lent : List ℤ) where
   pub filling-none : m ≤ length lent → isTaken (fields s 0 m from) ≡ true → Filling s m from lent lent from 0
-  filling-none h t = record { low = omega arith; room = h; long = refl; rest = rw (sub-zero m) t; is = rw (sub-zero m) refl }
+  filling-none h t =
+      let none = sub-zero m in
+      record { low = omega arith; room = h; long = refl; rest = rw none t; is = rw none refl }
 
-  module _ {out : List ℤ} {at k : ℕ} {f : Field} (p : Filling s m from lent out at k) (h : k < m) (is : f ≡ fieldAt s k at) where
+  module _ {out : List ℤ} {at k : ℕ} {f : Field} (p : Filling s m from lent out at k) (h : k < m)
+      (is : f ≡ fieldAt s k at) where
     pub filling-more : {z : ℤ} {next : ℕ} → f ≡ Value z next → SFits w16 z
         → Filling s m from lent (set out k (toZ w16 (ofZ w16 z))) next (k + 1)
     filling-more {z} {next} e fits =

@@ -55,8 +55,8 @@ module _ (s : List ℕ) where
       let k = lastOf bs in
       go (ltb 2 k) (leb (length bs) k) (ltb 0 k && eqb (getD bs k 0) 0) (valueOf (take (k + 1) bs)) (at + (k + 1))
     where
-      go : (a b c : Bool) (n next : ℕ)
-          → NumberLeft at (cond a (stopped 32 at) (cond b (stopped 31 at) (cond c (stopped 32 at) (number.Value n next))))
+      go : (a b c : Bool) (n next : ℕ) → NumberLeft at
+          (cond a (stopped 32 at) (cond b (stopped 31 at) (cond c (stopped 32 at) (number.Value n next))))
       go true b c n next = told s 32 at refl l
       go false true c n next = told s 31 at refl l
       go false false true n next = told s 32 at refl l

@@ -3,10 +3,12 @@
 --     answerOf t           the answer: how many records were read, or the refusal
 --     readRefusal a        the paper's number and place for each case: 0 and 0 where the file is read
 --     contents t lent      what the lent array holds then
---     Reads t lent out a   the answer is a, and the array that was `lent` is then `out`
+--     Gives t lent out a   the answer is a, and the array that was `lent` is then `out`
+--     Reads s lent out a   so it is of a file s
 -- Assumes nothing.
 use mathlib.Core.Path.{_≡_}
 use mathlib.Core.List.{List, _++_}
+use Prim.Native.Nat.{ℕ}
 use lib.IntN.{ℤ}
 use lib.ListN.{length, drop}
 use Rattle.record.specs.Records.{recordCount}
@@ -14,7 +16,7 @@ use Rattle.chart.specs.declared.Refusal.{Refusal}
 use Rattle.chart.specs.Verdicts.{noRefusal}
 use Rattle.file.specs.declared.Answer.{Answer}
 use Rattle.file.specs.declared.Answer.the-variants.{Records, Refused}
-use Rattle.file.specs.Files.{Taken, taken, refused}
+use Rattle.file.specs.Files.{Taken, taken, refused, fileOf}
 
 abbrev pub answerOf : Taken → Answer
 answerOf (taken zs at) = Records (recordCount zs)
@@ -28,6 +30,9 @@ abbrev pub contents : Taken → List ℤ → List ℤ
 contents (taken zs at) lent = zs ++ drop (length zs) lent
 contents (refused r) lent = lent
 
-pub record Reads (t : Taken) (lent out : List ℤ) (a : Answer) : Type 0 where
+pub record Gives (t : Taken) (lent out : List ℤ) (a : Answer) : Type 0 where
   pub says : a ≡ answerOf t
   pub leaves : out ≡ contents t lent
+
+abbrev pub Reads : List ℕ → List ℤ → List ℤ → Answer → Type 0
+Reads s lent out a = Gives (fileOf s (length lent)) lent out a

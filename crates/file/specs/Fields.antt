@@ -1,11 +1,13 @@
 -- What a number of a chart file gives the array (document 01: "then each record: four signed numbers and the mark").
--- n is a number of the file that stands from the place `at` to the place `next`, k the place in the array that it is for.
+-- n is a number of the file that stands from the place `at` to the place `next`, k the place of the array that it is
+-- for.
 --     refused at             33, at the first byte of the number
 --     coordinate n at next   the signed number that n stands for; 33 "a coordinate off the grid"
 --     mark n at next         n itself; 33 "or a mark above 1"
 --     isMark k               the last of a record's five numbers is the mark
 --     field k n at next      what the array gets at its place k, and the next place of the file
---     fieldAt s k at         the same of the number at the place `at` of a file s: first its refusal, if it is no number
+--     fieldIn k at a         the same of what stands at the place `at`: the refusal, where that is no number
+--     fieldAt s k at         the same of the number at the place `at` of a file s
 -- Assumes nothing.
 use mathlib.Core.Bool.{Bool, cond}
 use mathlib.Core.List.{List}

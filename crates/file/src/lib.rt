@@ -7,8 +7,8 @@ ghost use lib.ListN.{length};
 ghost use Rattle.record.specs.Records.{width};
 ghost use Rattle.chart.specs.Verdicts.{limit};
 ghost use Rattle.file.specs.Fields.{refused, coordinate, mark, field, fieldAt};
-ghost use Rattle.file.specs.Files.{refusedBy, fields, recordsOf, fileOf};
-ghost use Rattle.file.specs.Answers.{answerOf, contents, Reads};
+ghost use Rattle.file.specs.Files.{refusedBy, fields, recordsOf};
+ghost use Rattle.file.specs.Answers.{answerOf, contents, Gives, Reads};
 ghost use Rattle.file.specs.Steps.{isTaken, endOf};
 use chart::LIMIT;
 use chart::Refusal;
@@ -38,8 +38,8 @@ enum End {
 // The mark's place among the numbers of a record.
 const MARK: usize = 4;
 
-// The larger mark.
-const MARKED: u32 = 1;
+// A mark is 0 or this.
+const GREATER_MARK: u32 = 1;
 
 // ---- one number for the array
 
@@ -65,7 +65,7 @@ fn coordinate_of(n: u32, at: usize, next: usize) -> Field
 fn mark_of(n: u32, at: usize, next: usize) -> Field
     ensures { λ f. ⌜ f ≡ mark n at next ⌝ }
 {
-    if MARKED < n {
+    if GREATER_MARK < n {
         return unfit(at);
     }
     Field::Value {
@@ -94,8 +94,9 @@ fn field_at(bytes: &[u8], k: usize, at: usize) -> Field
     }
 }
 
-// ---- the numbers of the records, twice over: first whether all of them can be taken, then into the array
+// ---- the numbers of the records: a first pass that writes nothing, and a second that refuses nothing
 
+// Where m numbers from the place `from` on end, or the first refusal among them.
 fn end_of(bytes: &[u8], m: usize, from: usize) -> End
     ensures { λ e. ⌜ e ≡ endOf (fields (now (bytes .entry)) 0 m from) ⌝ }
 {
@@ -112,6 +113,7 @@ fn end_of(bytes: &[u8], m: usize, from: usize) -> End
     End::At(at)
 }
 
+// Writes m numbers from the place `from` on into the array; the first pass has seen that they can all be taken.
 fn fill(bytes: &[u8], m: usize, from: usize, out: &mut [i16])
     requires { ⌜ (m ≤ length (now out)) × (isTaken (fields (now bytes) 0 m from) ≡ true) ⌝ }
     ensures { λ _. ⌜ now (out .exit) ≡ contents (fields (now (bytes .entry)) 0 m from) (now (out .entry)) ⌝ }
@@ -145,7 +147,7 @@ fn refused(number: u16, place: usize) -> Answer
 // The n records from the place `from` on, and nothing after them.
 fn read_records(bytes: &[u8], n: usize, from: usize, out: &mut [i16]) -> Answer
     requires { ⌜ (n ≤ limit) × (width * n ≤ length (now out)) ⌝ }
-    ensures { λ a. ⌜ Reads (recordsOf (now (bytes .entry)) n from) (now (out .entry)) (now (out .exit)) a ⌝ }
+    ensures { λ a. ⌜ Gives (recordsOf (now (bytes .entry)) n from) (now (out .entry)) (now (out .exit)) a ⌝ }
 {
     let m = WIDTH * n;
     let e = end_of(bytes, m, from);
@@ -163,7 +165,7 @@ fn read_records(bytes: &[u8], n: usize, from: usize, out: &mut [i16]) -> Answer
 
 // Reads a chart file into the lent array. Judges the file's form only, not the chart.
 pub fn read(bytes: &[u8], out: &mut [i16]) -> Answer
-    ensures { λ a. ⌜ Reads (fileOf (now (bytes .entry)) (length (now (out .entry)))) (now (out .entry)) (now (out .exit)) a ⌝ }
+    ensures { λ a. ⌜ Reads (now (bytes .entry)) (now (out .entry)) (now (out .exit)) a ⌝ }
 {
     let c = number::take_number(bytes, 0);
     match c {

@@ -1,11 +1,10 @@
--- One number of a file, group by group, by what the code has seen of the bytes s at a place: that they end there, or the
--- byte there. A law for each return of `third_group`, `second_group`, `take_number` and `last_group`; `grouping` has them
--- all.
+-- One number of a file, group by group, by what the code has seen of the bytes s at a place: that they end there, or
+-- the byte there. A law for each return of `third_group`, `second_group`, `take_number` and `last_group`; `grouping`
+-- has them all.
 -- Assumes nothing.
-use mathlib.Core.Path.{_≡_, refl, ap, _∙_}
-use mathlib.Core.Bool.{false}
-use mathlib.Core.List.{List, [], _∷_}
-use Prim.Native.Nat.{ℕ, zero, suc, _+_, _*_, _-_, _≤_, _<_}
+use mathlib.Core.Path.{_≡_}
+use mathlib.Core.List.{List, _∷_}
+use Prim.Native.Nat.{ℕ, _+_, _*_, _-_, _≤_, _<_}
 use native.Mathlib.Numerals.{add-one}
 use native.Mathlib.Omega.{arith}
 use borrow.Author.Tests.{le-leb, lt-leb, eq-eqb, ne-eqb}

@@ -1,10 +1,10 @@
 -- Laws of one number of a file.
 --     numberIn-groups   the number, group by group
 -- Assumes nothing.
-use mathlib.Core.Path.{_≡_, refl, ap, ap₂, _∙_}
+use mathlib.Core.Path.{_≡_, refl}
 use mathlib.Core.Bool.{Bool, true, false, cond, not, _&&_}
 use mathlib.Core.List.{List, [], _∷_}
-use Prim.Native.Nat.{ℕ, zero, suc, _+_, _*_}
+use Prim.Native.Nat.{ℕ, suc, _+_, _*_}
 use native.Mathlib.Omega.{arith}
 use borrow.Author.Tests.{lt-ltb, lt-leb}
 use lib.Dec.{ltb, leb, eqb}
@@ -35,7 +35,8 @@ third a b (c ∷ bs) at = go (goesOn c)
         ≡ cond high (refused 32 at) (lastGroup c (bits a + 128 * bits b + 16384 * bits c) at (at + 3))
     go true = rw (lt-ltb 2 (suc (suc (suc (lastOf bs)))) (omega arith)) refl
     go false =
-        let value : bits a + 128 * (bits b + 128 * (bits c + 128 * 0)) ≡ bits a + 128 * bits b + 16384 * bits c = omega arith in
+        let low = bits a + 128 * bits b in
+        let value : bits a + 128 * (bits b + 128 * (bits c + 128 * 0)) ≡ low + 16384 * bits c = omega arith in
         rw (lt-leb (suc (suc (suc (length bs)))) 2 (omega arith), value) refl
 
 second : (a : ℕ) (bs : List ℕ) (at : ℕ) → chosen (suc (lastOf bs)) (a ∷ bs) at ≡ secondGroup (bits a) bs at

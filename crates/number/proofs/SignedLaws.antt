@@ -2,7 +2,7 @@
 --     signed-written, written-signed    reading and writing are each other's way back
 --     signed-even, signed-odd, below-fits    what `signed_of` computes, as the language states it
 -- Assumes nothing.
-use mathlib.Core.Path.{_≡_, refl, ap, _∙_}
+use mathlib.Core.Path.{_≡_, refl, ap}
 use mathlib.Core.Bool.{Bool, true, false, cond}
 use Prim.Native.Nat.{ℕ, zero, suc, _+_, _*_, _/_, _%_, _<_}
 use native.Mathlib.Omega.{arith}

@@ -1,6 +1,7 @@
 -- How many bytes a number of a chart file takes, of whatever bytes.
---     Size bs at n next    of the number n that the bytes bs begin with, from the place `at` to the place `next`: it takes
---                          a byte at the least and three at the most, all of them there, and no more than it needs
+--     Size bs at n next    of the number n that the bytes bs begin with, from the place `at` to the place `next`: it
+--                          takes a byte at the least and three at the most, all of them there, and no more than it
+--                          needs
 --     numberIn-size        so it is of every number that is taken
 --     numberIn-append      bytes past the third change nothing of it
 --     numberIn-largest     the largest number there is

@@ -1,5 +1,6 @@
 -- One number of a chart file group by group, as the code reads it.
---     firstGroup bs at       the number whose bytes are bs, at the place `at`: it is `numberIn` (proofs/NumberLaws.antt)
+--     firstGroup bs at       the number whose bytes are bs, at the place `at`. That it is `numberIn` is a law of
+--                            proofs/NumberLaws.antt
 --     secondGroup n bs at    the same where the first group gives n, bs being the bytes after it
 --     thirdGroup n bs at     the same where the first two groups give n
 --     lastGroup b n at next  the number n, whose last group b comes after another

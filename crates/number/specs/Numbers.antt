@@ -10,8 +10,10 @@
 --                      31  "bytes end inside a number or before it"
 --                      32  "or a last group of zero after another"
 --     numberAt s at    the number at the place `at` of a file s
+--     numberRefusal a  the paper's number and place for each case: 0 and 0 where there is a number
 --     written z        "Signed n is written as 2n, or -2n-1 below zero"
---     signed n         the signed number that is written as n: `signed-written`, `written-signed` (proofs/SignedLaws.antt)
+--     signed n         the signed number that is written as n: `signed-written`, `written-signed` are laws of
+--                      proofs/SignedLaws.antt
 -- Assumes nothing.
 use mathlib.Core.Bool.{Bool, cond, not, _&&_}
 use mathlib.Core.List.{List, [], _∷_}
@@ -20,6 +22,8 @@ use lib.Dec.{ltb, leb, eqb}
 use lib.IntN.{ℤ, pos, negsuc}
 use lib.ListN.{length, getD, take, drop}
 use Rattle.counts.specs.Count.{firstIndex}
+use Rattle.chart.specs.declared.Refusal.{Refusal}
+use Rattle.chart.specs.Verdicts.{noRefusal}
 use Rattle.number.specs.declared.Number.{Number}
 use Rattle.number.specs.declared.Number.the-variants.{Value, Refused}
 
@@ -49,6 +53,10 @@ numberIn bs at =
 
 abbrev pub numberAt : List ℕ → ℕ → Number
 numberAt s at = numberIn (drop at s) at
+
+abbrev pub numberRefusal : Number → Refusal
+numberRefusal (Value n next) = noRefusal
+numberRefusal (Refused r) = r
 
 abbrev pub written : ℤ → ℕ
 written (pos n) = 2 * n

@@ -4,8 +4,8 @@
 //     the file's length   two bytes: how many bytes; more than 8,192 end the program
 //     the file            its bytes
 // A question that is cut off ends the program. The array is filled before it is lent: the number at its place i is,
-// counted from the grid's lower end, (40,503 i + 12,345) mod 65,536. No two places have the same, so what is not written
-// is seen. The answer is
+// counted from the grid's lower end, (40,503 i + 12,345) mod 65,536. No two places have the same, so what is not
+// written is seen. The answer is
 //     the refusal         one byte: its number, 0 where the file is read
 //     how many or where   four bytes: the number of records that are read, or the refusal's place
 //     the array           two bytes for each of its numbers as it is then, counted from the grid's lower end

@@ -1,6 +1,7 @@
 -- What the library promises of chart files, over document 01's rules, for whatever bytes and whatever array.
 --     read-refused      a file that is refused: by one of the numbers 31 to 36, at a place of the file or its end, and
 --                       the lent array is as it was
+--     read-ends         so every file ends with the number 0, for none, or such a refusal, and the array is as it was
 --     read-records      a file of which n records are read: they are what the file says, to its last byte, and stand at
 --                       the array's beginning; places beyond stay; and n is no more than the limit
 --     longest-file      no file of more than 6,658 bytes is taken
@@ -11,6 +12,7 @@
 --     forms             the forms of one number, and the empty chart's file
 -- That two outcomes coincide: Outcomes.antt. Assumes nothing.
 use mathlib.Core.Path.{_≡_, refl, ap, _∙_}
+use mathlib.Core.Logic.{_⊎_, inl, inr}
 use mathlib.Core.Bool.{true}
 use mathlib.Core.List.{List, [], _∷_}
 use Prim.Native.Nat.{ℕ, _*_, _≤_}
@@ -21,14 +23,14 @@ use lib.ListN.{length, take, drop}
 use Rattle.counts.specs.Count.{all, firstIndex}
 use Rattle.record.specs.Records.{width}
 use Rattle.chart.specs.declared.Refusal.{Refusal}
-use Rattle.chart.specs.Verdicts.{limit}
+use Rattle.chart.specs.Verdicts.{limit, noRefusal}
 use Rattle.file.specs.declared.Answer.{Answer}
 use Rattle.file.specs.declared.Answer.the-variants.{Records, Refused}
 use Rattle.number.specs.declared.Number.the-variants.{Value}
 use Rattle.number.specs.Numbers.{refused, valueOf, numberIn, numberAt, signed}
 use Rattle.file.specs.Fields.{coordinate, field}
 use Rattle.file.specs.Files.{taken, refusedBy, fields, fileOf}
-use Rattle.file.specs.Answers.{Reads}
+use Rattle.file.specs.Answers.{readRefusal, Reads}
 use Rattle.file.proofs.AnswerLaws.{reads-took, reads-refused, reads-untouched}
 use Rattle.file.proofs.RefusalLaws.{Told, fileOf-told, fileOf-end}
 use Rattle.number.proofs.SizeLaws.{numberIn-size}
@@ -38,10 +40,17 @@ use Rattle.file.proofs.LongestLaws.{longest-reached}
 use Rattle.file.proofs.BufferLaws.{buffered}
 use Rattle.promises.specs.Bench.{square, squareFile}
 
-module _ (s : List ℕ) (lent out : List ℤ) (a : Answer) (reads : Reads (fileOf s (length lent)) lent out a) where
+module _ (s : List ℕ) (lent out : List ℤ) (a : Answer) (reads : Reads s lent out a) where
   pub read-refused : (r : Refusal) → a ≡ Refused r → Told s r × (out ≡ lent)
   read-refused r e =
-      (fileOf-told s (length lent) (reads-refused s (length lent) lent out reads e), reads-untouched s lent out reads e)
+      (fileOf-told s (length lent) (reads-refused s lent out reads e), reads-untouched s lent out reads e)
+
+  pub read-ends : (readRefusal a ≡ noRefusal) ⊎ (Told s (readRefusal a) × (out ≡ lent))
+  read-ends = go a refl
+    where
+      go : (b : Answer) → a ≡ b → (readRefusal b ≡ noRefusal) ⊎ (Told s (readRefusal b) × (out ≡ lent))
+      go (Records n) e = inl refl
+      go (Refused r) e = inr (read-refused r e)
 
   pub read-records : (n : ℕ) → a ≡ Records n
       → (fileOf s (length lent) ≡ taken (take (width * n) out) (length s))
@@ -57,7 +66,7 @@ longest-file = longest-bytes
 pub longest-there : (s : List ℕ) × (zs : List ℤ) × (length s ≡ 6658) × (all (λ b. ltb b 256) s ≡ true)
     × (fileOf s 2560 ≡ taken zs 6658)
 longest-there =
-    (longest-reached .0, manyNumbers limit, longest-reached .1, longest-reached .2, longest-reached .3 2560 (omega arith))
+    let l = longest-reached in (l .0, manyNumbers limit, l .1, l .2, l .3 2560 (omega arith))
 
 pub past-the-buffer : (s : List ℕ) (room : ℕ) → fileOf (take 8192 s) room ≡ fileOf s room
 past-the-buffer = buffered

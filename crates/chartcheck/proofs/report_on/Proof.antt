@@ -13,7 +13,8 @@ mul-end c =
 
 part-report-of-end : tie.Need-part-report-of-end
 part-report-of-end c =
-    let took = reads-took _ _ _ (c .before .before .before .before .before .read .ensures) (c .before .before .a .given .1) in
+    let seen = c .before in
+    let took = reads-took _ _ _ (seen .before .before .before .before .read .ensures) (seen .before .a .given .1) in
     search (needs, took .fits)
 
 returns : tie.Need-returns
@@ -24,7 +25,7 @@ returns c =
 
 returns-2 : tie.Need-returns-2
 returns-2 c =
-    file-refused _ (reads-refused _ _ _ _ (c .before .before .before .before .read .ensures) (c .before .a2 .given .1))
+    file-refused _ (reads-refused _ _ _ (c .before .before .before .before .read .ensures) (c .before .a2 .given .1))
 
 pub report-on-spec : {M : Type 1} → statement M
 report-on-spec =

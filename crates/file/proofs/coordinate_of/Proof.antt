@@ -9,5 +9,5 @@ ruleset all = (needs, fielding)
 pub coordinate-of-spec : {M : Type 1} → statement M
 coordinate-of-spec =
     tie.close
-    (tie.spec (λ c κs. search needs) (λ c κs. search needs) (λ c. search needs) (λ c. search needs) (λ c κs. search needs)
-    (λ c. search all) (λ c. search all))
+    (tie.spec (λ c κs. search needs) (λ c κs. search needs) (λ c. search needs) (λ c. search needs)
+    (λ c κs. search needs) (λ c. search all) (λ c. search all))

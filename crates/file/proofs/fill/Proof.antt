@@ -17,5 +17,5 @@ pub fill-spec : {M : Type 1} → statement M
 fill-spec =
     tie.close
     (tie.spec Inv-loop μ-loop (λ c. search all) (λ c κs. search needs) (λ c. search needs) (λ c. search needs)
-    (λ c. search needs) (λ c. search needs) (λ c. search needs) (λ c. search all) (λ c. search needs) (λ c. search needs)
-    (λ c. search all) (λ c. search needs) (λ c. search all))
+    (λ c. search needs) (λ c. search needs) (λ c. search needs) (λ c. search all) (λ c. search needs)
+    (λ c. search needs) (λ c. search all) (λ c. search needs) (λ c. search all))

@@ -9,6 +9,6 @@ ruleset all = (needs, reading)
 pub read-spec : {M : Type 1} → statement M
 read-spec =
     tie.close
-    (tie.spec (λ c κs. search needs) (λ c. search needs) (λ c. search needs) (λ c. search needs) (λ c κs. search needs)
-    (λ c. search all) (λ c κs. search needs) (λ c. search all) (λ c κs. search needs) (λ c. search needs) (λ c. search needs)
-    (λ c. search all) (λ c. search all))
+    (tie.spec (λ c κs. search needs) (λ c. search needs) (λ c. search needs) (λ c. search needs)
+    (λ c κs. search needs) (λ c. search all) (λ c κs. search needs) (λ c. search all) (λ c κs. search needs)
+    (λ c. search needs) (λ c. search needs) (λ c. search all) (λ c. search all))

@@ -10,5 +10,5 @@ pub second-group-spec : {M : Type 1} → statement M
 second-group-spec =
     tie.close
     (tie.spec (λ c. search needs) (λ c κs. search needs) (λ c. search all) (λ c. search needs) (λ c κs. search needs)
-    (λ c. search needs) (λ c. search needs) (λ c κs. search needs) (λ c. search all) (λ c κs. search needs) (λ c. search needs)
-    (λ c. search needs) (λ c. search needs) (λ c κs. search needs) (λ c. search all))
+    (λ c. search needs) (λ c. search needs) (λ c κs. search needs) (λ c. search all) (λ c κs. search needs)
+    (λ c. search needs) (λ c. search needs) (λ c. search needs) (λ c κs. search needs) (λ c. search all))

@@ -10,5 +10,5 @@ pub third-group-spec : {M : Type 1} → statement M
 third-group-spec =
     tie.close
     (tie.spec (λ c. search needs) (λ c κs. search needs) (λ c. search all) (λ c. search needs) (λ c κs. search needs)
-    (λ c. search all) (λ c κs. search needs) (λ c. search needs) (λ c. search needs) (λ c. search needs) (λ c κs. search needs)
-    (λ c. search all))
+    (λ c. search all) (λ c κs. search needs) (λ c. search needs) (λ c. search needs) (λ c. search needs)
+    (λ c κs. search needs) (λ c. search all))
