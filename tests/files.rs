@@ -13,11 +13,13 @@ mod judging {
     pub mod files;
     pub mod questions;
     pub mod spoils;
+    pub mod tally;
 }
 
 use judging::asking::{ask, count, Dice};
 use judging::files::{parts, read, Answer};
 use judging::questions::{changed_squares, examples, long, numbers, small, squares, Question, BYTES, NUMBERS};
+use judging::tally::Tally;
 
 /// How many bytes of questions the program takes at once.
 const TAKEN: usize = 65536;
@@ -27,9 +29,6 @@ const FRONT: usize = 5;
 
 /// So many drawn files are asked about before it is told how far this is.
 const TOLD: usize = 100_000;
-
-/// So many disagreements are shown.
-const SHOWN: usize = 5;
 
 // ---- questions and answers
 
@@ -90,8 +89,7 @@ fn difference(wanted: &[u8], got: &[u8]) -> String {
 #[derive(Default)]
 struct Judge {
     probe: String,
-    passed: usize,
-    failed: usize,
+    tally: Tally,
     /// how many files were read
     read: usize,
     /// how many were refused by 31 to 36
@@ -99,13 +97,6 @@ struct Judge {
 }
 
 impl Judge {
-    fn fail(&mut self, what: String) {
-        self.failed += 1;
-        if self.failed <= SHOWN {
-            println!("{what}");
-        }
-    }
-
     /// Takes the answer to a question off the bytes, and says what is not as wanted.
     fn disagreement(&mut self, q: &Question, rest: &mut &[u8]) -> Option<String> {
         let own = read(&q.file, q.room);
@@ -128,14 +119,10 @@ impl Judge {
         let answers = ask(&self.probe, &questions.iter().flat_map(Question::bytes).collect::<Vec<u8>>());
         let mut rest = &answers[..];
         for q in questions {
-            match self.disagreement(q, &mut rest) {
-                None => self.passed += 1,
-                Some(what) => self.fail(what),
-            }
+            let disagreement = self.disagreement(q, &mut rest);
+            self.tally.note(disagreement);
         }
-        if !rest.is_empty() {
-            self.fail(format!("{} bytes were answered that nothing asked for", rest.len()));
-        }
+        self.tally.end(rest);
     }
 
     /// As many at once as the program takes.
@@ -173,13 +160,10 @@ impl Judge {
         }
     }
 
-    fn report(&mut self) {
+    fn report(self) -> ! {
         let by: Vec<String> = self.refused.iter().zip(31..).map(|(n, number)| format!("{n} by {number}")).collect();
         println!("files: {} read; refused: {}", self.read, by.join(", "));
-        if self.read == 0 || self.refused.contains(&0) {
-            self.fail("one of these answers never came up".to_string());
-        }
-        println!("{} passed, {} failed", self.passed, self.failed);
+        self.tally.close(&[&[self.read], &self.refused[..]].concat())
     }
 }
 
@@ -191,6 +175,5 @@ fn main() {
     let mut judge = Judge { probe: probe.clone(), ..Judge::default() };
     judge.judge_listed();
     judge.judge_drawn(total, dice);
-    judge.report();
-    std::process::exit(if judge.failed == 0 { 0 } else { 1 });
+    judge.report()
 }

@@ -11,20 +11,19 @@ mod judging {
     pub mod asking;
     pub mod cards;
     pub mod gauges;
+    pub mod tally;
 }
 
 use judging::asking::{ask, count, Dice};
 use judging::cards::{broken, examples, sound, Run, ALL};
 use judging::gauges::{gauged, Card, Gauged};
+use judging::tally::Tally;
 
 /// How many listed cards are asked about at once: with every sample of each, the answer has 43 million bytes.
 const LISTED: usize = 60;
 
 /// How many drawn cards are asked about at once: with six runs of each, the program has room for 520.
 const DRAWN: usize = 500;
-
-/// So many disagreements are shown.
-const SHOWN: usize = 5;
 
 // ---- questions and answers
 
@@ -62,8 +61,7 @@ fn next_answer(rest: &mut &[u8]) -> Option<Gauged> {
 #[derive(Default)]
 struct Judge {
     probe: String,
-    passed: usize,
-    failed: usize,
+    tally: Tally,
     /// how many samples were read
     read: usize,
     /// how many were refused by 21, 22 and 23
@@ -71,13 +69,6 @@ struct Judge {
 }
 
 impl Judge {
-    fn fail(&mut self, what: String) {
-        self.failed += 1;
-        if self.failed <= SHOWN {
-            println!("{what}");
-        }
-    }
-
     /// Takes the answers to a question off the bytes, and says which is the first that is not as wanted.
     fn disagreement(&mut self, q: &Question, rest: &mut &[u8]) -> Option<String> {
         let mut first = None;
@@ -99,14 +90,10 @@ impl Judge {
         let answers = ask(&self.probe, &questions.iter().flat_map(Question::bytes).collect::<Vec<u8>>());
         let mut rest = &answers[..];
         for q in questions {
-            match self.disagreement(q, &mut rest) {
-                None => self.passed += 1,
-                Some(what) => self.fail(what),
-            }
+            let disagreement = self.disagreement(q, &mut rest);
+            self.tally.note(disagreement);
         }
-        if !rest.is_empty() {
-            self.fail(format!("{} bytes were answered that nothing asked for", rest.len()));
-        }
+        self.tally.end(rest);
     }
 
     /// The paper's examples, which the rules as they are written here must answer too.
@@ -114,7 +101,7 @@ impl Judge {
         for (card, sample, answer) in examples() {
             let own = gauged(card, sample);
             if own != answer {
-                self.fail(format!("{card}, sample {sample}: the paper has {answer}; the judge has {own}"));
+                self.tally.fail(format!("{card}, sample {sample}: the paper has {answer}; the judge has {own}"));
             }
             self.judge(&[Question { card, runs: vec![(sample, 0)] }]);
         }
@@ -139,13 +126,10 @@ impl Judge {
         }
     }
 
-    fn report(&mut self) {
+    fn report(self) -> ! {
         let (read, [card, pin, grid]) = (self.read, self.refused);
         println!("samples: {read} read, {card} refused by 21, {pin} by 22, {grid} by 23");
-        if [read, card, pin, grid].contains(&0) {
-            self.fail("one of these answers never came up".to_string());
-        }
-        println!("{} passed, {} failed", self.passed, self.failed);
+        self.tally.close(&[read, card, pin, grid])
     }
 }
 
@@ -158,6 +142,5 @@ fn main() {
     judge.judge_examples();
     judge.judge_listed();
     judge.judge_drawn(total, dice);
-    judge.report();
-    std::process::exit(if judge.failed == 0 { 0 } else { 1 });
+    judge.report()
 }
