@@ -1,7 +1,9 @@
 -- What the program says of a file (document 01: "It reads the file, checks the chart and writes one line").
 --     room             how many numbers its array holds: five for each of the most records that a chart may have
---     chartReport s    of a chart s: how many records it has, and twice its area; or the chart's refusal
---     report bytes     of a file: the file's refusal, or what its chart is said to be
+--     areaReport n a   of a chart of n records and the area a: both, or the chart's refusal
+--     chartReport s    of a chart s
+--     takenReport t    of what was taken from a file: the file's refusal, or what its chart is said to be
+--     report bytes     of a file
 -- Assumes nothing.
 use mathlib.Core.List.{List}
 use Prim.Native.Nat.{ℕ, _*_}

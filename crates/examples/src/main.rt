@@ -1,6 +1,5 @@
 // What the library answers on document 01's bench examples and at the edges of the check, one line each. The gate
 // compares the lines with the file stdout.
-mod files;
 mod gauges;
 
 use area::Area;
@@ -21,7 +20,6 @@ fn main() {
     two_faults();
     two_kinds();
     gauges::about_gauges();
-    files::about_files();
 }
 
 // ---- writing

@@ -5,7 +5,7 @@
 -- Assumes nothing.
 use mathlib.Core.Path.{_≡_, refl, subst}
 use mathlib.Core.Bool.{Bool, true, false, cond, _&&_}
-use mathlib.Core.List.{List, [], _∷_}
+use mathlib.Core.List.{List}
 use Prim.Native.Nat.{ℕ, zero, suc, _+_, _*_, _≤_, zero-le}
 use native.Mathlib.Omega.{arith}
 use lib.Dec.{leb, ltb, eqb}
@@ -24,16 +24,16 @@ use Rattle.number.specs.Numbers.{lastOf, valueOf, refused as stopped, numberIn,
 use Rattle.file.specs.Fields.{refused as unfit, isMark, coordinate, field, fieldIn, fieldAt}
 use Rattle.file.specs.Files.{Taken, taken, refused, refusedBy, onto, after, fields, whole, recordsOf, counted}
 use Rattle.file.specs.Files.{fileOf}
+use Rattle.file.specs.Answers.{isFileRefusal}
 use Rattle.number.proofs.SizeLaws.{numberIn-size}
 use Rattle.file.proofs.TakenLaws.{fileOf-parts}
 
 pub record Told (s : List ℕ) (r : Refusal) : Type 0 where
-  pub number : any (eqb (r .number)) (31 ∷ 32 ∷ 33 ∷ 34 ∷ 35 ∷ 36 ∷ []) ≡ true
+  pub number : isFileRefusal (r .number) ≡ true
   pub place : r .index ≤ length s
 
 -- a refusal of one of these numbers at a place of the file
-told : (s : List ℕ) (k at : ℕ) → any (eqb k) (31 ∷ 32 ∷ 33 ∷ 34 ∷ 35 ∷ 36 ∷ []) ≡ true → at ≤ length s
-    → Told s (record { number = k; index = at })
+told : (s : List ℕ) (k at : ℕ) → isFileRefusal k ≡ true → at ≤ length s → Told s (record { number = k; index = at })
 told s k at h l = record { number = h; place = l }
 
 module _ (s : List ℕ) where

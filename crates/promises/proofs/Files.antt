@@ -30,9 +30,9 @@ use Rattle.number.specs.declared.Number.the-variants.{Value}
 use Rattle.number.specs.Numbers.{refused, valueOf, numberIn, numberAt, signed}
 use Rattle.file.specs.Fields.{coordinate, field}
 use Rattle.file.specs.Files.{taken, refusedBy, fields, fileOf}
-use Rattle.file.specs.Answers.{readRefusal, Reads}
+use Rattle.file.specs.Answers.{readRefusal, isFileRefusal, Reads}
 use Rattle.file.proofs.AnswerLaws.{reads-took, reads-refused, reads-untouched}
-use Rattle.file.proofs.RefusalLaws.{Told, fileOf-told, fileOf-end}
+use Rattle.file.proofs.RefusalLaws.{fileOf-told, fileOf-end}
 use Rattle.number.proofs.SizeLaws.{numberIn-size}
 use Rattle.file.proofs.LengthLaws.{longest-bytes}
 use Rattle.file.proofs.ManyLaws.{manyNumbers}
@@ -41,16 +41,19 @@ use Rattle.file.proofs.BufferLaws.{buffered}
 use Rattle.promises.specs.Bench.{square, squareFile}
 
 module _ (s : List ℕ) (lent out : List ℤ) (a : Answer) (reads : Reads s lent out a) where
-  pub read-refused : (r : Refusal) → a ≡ Refused r → Told s r × (out ≡ lent)
+  pub read-refused : (r : Refusal) → a ≡ Refused r
+      → (isFileRefusal (r .number) ≡ true) × (r .index ≤ length s) × (out ≡ lent)
   read-refused r e =
-      (fileOf-told s (length lent) (reads-refused s lent out reads e), reads-untouched s lent out reads e)
+      let told = fileOf-told s (length lent) (reads-refused s lent out reads e) in
+      (told .number, told .place, reads-untouched s lent out reads e)
 
-  pub read-ends : (readRefusal a ≡ noRefusal) ⊎ (Told s (readRefusal a) × (out ≡ lent))
+  pub read-ends : (readRefusal a ≡ noRefusal) ⊎ ((isFileRefusal (readRefusal a .number) ≡ true) × (out ≡ lent))
   read-ends = go a refl
     where
-      go : (b : Answer) → a ≡ b → (readRefusal b ≡ noRefusal) ⊎ (Told s (readRefusal b) × (out ≡ lent))
+      go : (b : Answer) → a ≡ b
+          → (readRefusal b ≡ noRefusal) ⊎ ((isFileRefusal (readRefusal b .number) ≡ true) × (out ≡ lent))
       go (Records n) e = inl refl
-      go (Refused r) e = inr (read-refused r e)
+      go (Refused r) e = let told = read-refused r e in inr (told .0, told .2)
 
   pub read-records : (n : ℕ) → a ≡ Records n
       → (fileOf s (length lent) ≡ taken (take (width * n) out) (length s))
