@@ -4,7 +4,7 @@
 --     Filling       what the loop of `fill` holds: k numbers of the array are as they will be, the rest as they were
 -- Assumes nothing.
 use mathlib.Core.Path.{_≡_, refl, sym, ap, _∙_}
-use mathlib.Core.Bool.{true, false, true≢false}
+use mathlib.Core.Bool.{true, true≢false}
 use mathlib.Core.List.{List, _∷_, _++_}
 use Prim.Native.Nat.{ℕ, suc, _+_, _-_, _≤_, _<_}
 use native.Mathlib.Nat.{sub-zero}
@@ -21,7 +21,7 @@ use Rattle.file.specs.declared.Field.{Field}
 use Rattle.file.specs.declared.Field.the-variants.{Value, Refused}
 use Rattle.file.specs.declared.End.the-variants as end
 use Rattle.file.specs.Fields.{fieldAt}
-use Rattle.file.specs.Files.{Taken, taken, refused, onto, after, fields}
+use Rattle.file.specs.Files.{Taken, taken, refused, onto, fields}
 use Rattle.file.specs.Answers.{contents}
 use Rattle.file.specs.Steps.{isTaken, endOf}
 
