@@ -22,7 +22,7 @@ mod judging {
     pub mod sides;
 }
 
-use judging::asking::{ask, count, Dice};
+use judging::asking::{arguments, ask, count, Dice};
 use judging::chart::{verdict, Chart, Place};
 use judging::drafts::{draft, point_for, Draft};
 use judging::examples::Example;
@@ -214,7 +214,7 @@ fn batch(dice: &mut Dice, most: usize, waiting: &mut Option<Question>) -> Vec<Qu
 
 /// How many of a batch passed, and what is wrong with the next.
 fn judge(probe: &str, batch: &[Question], tally: &mut Tally) -> (usize, Option<String>) {
-    let answers = ask(probe, &batch.iter().flat_map(Question::bytes).collect::<Vec<u8>>());
+    let answers = ask(&probe, &batch.iter().flat_map(Question::bytes).collect::<Vec<u8>>());
     let mut rest = &answers[..];
     for (i, q) in batch.iter().enumerate() {
         let Draft { kind, numbers, .. } = &q.draft;
@@ -232,17 +232,14 @@ fn judge(probe: &str, batch: &[Question], tally: &mut Tally) -> (usize, Option<S
 }
 
 fn main() {
-    let args: Vec<String> = std::env::args().collect();
-    let probe = args.get(1).expect("charts PROBE [CHARTS [SEED]]");
-    let total: usize = args.get(2).map_or(20_000, |s| s.parse().expect("a number of charts"));
-    let mut dice = Dice(args.get(3).map_or(1, |s| s.parse().expect("a seed")));
+    let (probe, total, mut dice) = arguments("charts PROBE [CHARTS [SEED]]");
     let mut tally = Tally::default();
     let mut waiting = None;
     let mut all: Vec<Question> = examples::all().into_iter().map(Question::of).collect();
     let mut passed = 0;
     let mut wrong = broken_example().map(|name| format!("{name}: not as the papers say"));
     while !all.is_empty() && wrong.is_none() {
-        let (good, what) = judge(probe, &all, &mut tally);
+        let (good, what) = judge(&probe, &all, &mut tally);
         if (passed + good) / 10_000 > passed / 10_000 {
             eprintln!("{} of {total} charts", passed + good);
         }

@@ -16,7 +16,7 @@ mod judging {
     pub mod tally;
 }
 
-use judging::asking::{ask, count, Dice};
+use judging::asking::{arguments, ask, count, Dice};
 use judging::files::{parts, read, Answer};
 use judging::questions::{changed_squares, examples, long, numbers, small, squares, Question, BYTES, NUMBERS};
 use judging::tally::Tally;
@@ -168,11 +168,8 @@ impl Judge {
 }
 
 fn main() {
-    let args: Vec<String> = std::env::args().collect();
-    let probe = args.get(1).expect("files PROBE [FILES [SEED]]");
-    let total = args.get(2).map_or(20_000, |s| s.parse().expect("a number of files"));
-    let dice = Dice(args.get(3).map_or(1, |s| s.parse().expect("a seed")));
-    let mut judge = Judge { probe: probe.clone(), ..Judge::default() };
+    let (probe, total, dice) = arguments("files PROBE [FILES [SEED]]");
+    let mut judge = Judge { probe, ..Judge::default() };
     judge.judge_listed();
     judge.judge_drawn(total, dice);
     judge.report()

@@ -14,7 +14,7 @@ mod judging {
     pub mod tally;
 }
 
-use judging::asking::{ask, count, Dice};
+use judging::asking::{arguments, ask, count, Dice};
 use judging::cards::{broken, examples, sound, Run, ALL};
 use judging::gauges::{gauged, Card, Gauged};
 use judging::tally::Tally;
@@ -134,11 +134,8 @@ impl Judge {
 }
 
 fn main() {
-    let args: Vec<String> = std::env::args().collect();
-    let probe = args.get(1).expect("gauges PROBE [CARDS [SEED]]");
-    let total = args.get(2).map_or(20_000, |s| s.parse().expect("a number of cards"));
-    let dice = Dice(args.get(3).map_or(1, |s| s.parse().expect("a seed")));
-    let mut judge = Judge { probe: probe.clone(), ..Judge::default() };
+    let (probe, total, dice) = arguments("gauges PROBE [CARDS [SEED]]");
+    let mut judge = Judge { probe, ..Judge::default() };
     judge.judge_examples();
     judge.judge_listed();
     judge.judge_drawn(total, dice);

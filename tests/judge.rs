@@ -11,7 +11,7 @@ mod judging {
     pub mod records;
 }
 
-use judging::asking::{ask, count, Dice};
+use judging::asking::{arguments, ask, count, Dice};
 use judging::records::{comes_first, determinant, direction, record_of, run_at};
 
 // ---- the rules
@@ -128,16 +128,13 @@ fn part(numbers: &[i16]) -> Vec<u8> {
 // ---- asking
 
 fn main() {
-    let args: Vec<String> = std::env::args().collect();
-    let probe = args.get(1).expect("judge PROBE [QUESTIONS [SEED]]");
-    let total: usize = args.get(2).map_or(20_000, |s| s.parse().expect("a number of questions"));
-    let mut dice = Dice(args.get(3).map_or(1, |s| s.parse().expect("a seed")));
+    let (probe, total, mut dice) = arguments("judge PROBE [QUESTIONS [SEED]]");
     let (mut passed, mut failed, mut asked) = (0, 0, 0);
     // 700 questions of 88 bytes fit the probe's buffer
     while asked < total {
         let batch: Vec<Question> = (0..700.min(total - asked)).map(|_| Question::new(&mut dice)).collect();
         asked += batch.len();
-        let answers = ask(probe, &batch.iter().flat_map(Question::bytes).collect::<Vec<u8>>());
+        let answers = ask(&probe, &batch.iter().flat_map(Question::bytes).collect::<Vec<u8>>());
         let mut rest = &answers[..];
         for q in &batch {
             let want = q.answer();

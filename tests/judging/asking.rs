@@ -28,6 +28,13 @@ impl Dice {
     }
 }
 
+/// What a judge is called with: PROBE [HOW MANY [SEED]]. By default 20,000 with seed 1.
+pub fn arguments(usage: &str) -> (String, usize, Dice) {
+    let args: Vec<String> = std::env::args().collect();
+    let number = |i: usize, default: u64| args.get(i).map_or(default, |s| s.parse().expect(usage));
+    (args.get(1).expect(usage).clone(), number(2, 20_000) as usize, Dice(number(3, 1)))
+}
+
 /// A number counted from the grid's lower end, lowest byte first.
 pub fn count(v: i16) -> [u8; 2] {
     ((v as i32 + 32768) as u16).to_le_bytes()
