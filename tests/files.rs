@@ -16,7 +16,7 @@ mod judging {
     pub mod tally;
 }
 
-use judging::asking::{arguments, ask, count, Dice};
+use judging::asking::{arguments, count, Dice};
 use judging::files::{parts, read, Answer};
 use judging::questions::{changed_squares, examples, long, numbers, small, squares, Question, BYTES, NUMBERS};
 use judging::tally::Tally;
@@ -86,91 +86,60 @@ fn difference(wanted: &[u8], got: &[u8]) -> String {
 
 // ---- judging
 
-#[derive(Default)]
-struct Judge {
-    probe: String,
-    tally: Tally,
-    /// how many files were read
-    read: usize,
-    /// how many were refused by 31 to 36
-    refused: [usize; 6],
+/// Takes the answer to a question off the bytes, and says what is not as wanted.
+fn disagreement(tally: &mut Tally, q: &Question, rest: &mut &[u8]) -> Option<String> {
+    let own = read(&q.file, q.room);
+    tally.want(own.as_ref().map_or_else(|(number, _)| *number, |_| 0));
+    let wanted = q.answer(&own);
+    let (got, left) = rest.split_at(wanted.len().min(rest.len()));
+    *rest = left;
+    let what = match q.objection(&own) {
+        Some(what) => format!("two readings of document 01 differ: {what}"),
+        None if got == &wanted[..] => return None,
+        None => format!("got {}", difference(&wanted, got)),
+    };
+    Some(format!("{:02x?}, room {}: wanted {}; {what}", q.file, q.room, told(&own)))
 }
 
-impl Judge {
-    /// Takes the answer to a question off the bytes, and says what is not as wanted.
-    fn disagreement(&mut self, q: &Question, rest: &mut &[u8]) -> Option<String> {
-        let own = read(&q.file, q.room);
-        match own {
-            Ok(_) => self.read += 1,
-            Err((number, _)) => self.refused[number as usize - 31] += 1,
+/// As many at once as the program takes.
+fn judge_all(tally: &mut Tally, questions: impl Iterator<Item = Question>) {
+    let (mut batch, mut used) = (vec![], 0);
+    for q in questions {
+        let size = q.bytes().len();
+        if used + size > TAKEN {
+            tally.judge(&batch, Question::bytes, disagreement);
+            batch.clear();
+            used = 0;
         }
-        let wanted = q.answer(&own);
-        let (got, left) = rest.split_at(wanted.len().min(rest.len()));
-        *rest = left;
-        let what = match q.objection(&own) {
-            Some(what) => format!("two readings of document 01 differ: {what}"),
-            None if got == &wanted[..] => return None,
-            None => format!("got {}", difference(&wanted, got)),
-        };
-        Some(format!("{:02x?}, room {}: wanted {}; {what}", q.file, q.room, told(&own)))
+        used += size;
+        batch.push(q);
     }
+    tally.judge(&batch, Question::bytes, disagreement);
+}
 
-    fn judge(&mut self, questions: &[Question]) {
-        let answers = ask(&self.probe, &questions.iter().flat_map(Question::bytes).collect::<Vec<u8>>());
-        let mut rest = &answers[..];
-        for q in questions {
-            let disagreement = self.disagreement(q, &mut rest);
-            self.tally.note(disagreement);
+fn judge_listed(tally: &mut Tally) {
+    judge_all(tally, examples().into_iter());
+    judge_all(tally, squares());
+    judge_all(tally, changed_squares());
+    judge_all(tally, long());
+    judge_all(tally, numbers());
+    judge_all(tally, small());
+}
+
+fn judge_drawn(tally: &mut Tally, total: usize, mut dice: Dice) {
+    for asked in (0..total).step_by(TOLD) {
+        let upto = total.min(asked + TOLD);
+        judge_all(tally, (asked..upto).map(|_| dice.question()));
+        if upto % TOLD == 0 {
+            eprintln!("{upto} of {total} drawn files");
         }
-        self.tally.end(rest);
-    }
-
-    /// As many at once as the program takes.
-    fn judge_all(&mut self, questions: impl Iterator<Item = Question>) {
-        let (mut batch, mut used) = (vec![], 0);
-        for q in questions {
-            let size = q.bytes().len();
-            if used + size > TAKEN {
-                self.judge(&batch);
-                batch.clear();
-                used = 0;
-            }
-            used += size;
-            batch.push(q);
-        }
-        self.judge(&batch);
-    }
-
-    fn judge_listed(&mut self) {
-        self.judge_all(examples().into_iter());
-        self.judge_all(squares());
-        self.judge_all(changed_squares());
-        self.judge_all(long());
-        self.judge_all(numbers());
-        self.judge_all(small());
-    }
-
-    fn judge_drawn(&mut self, total: usize, mut dice: Dice) {
-        for asked in (0..total).step_by(TOLD) {
-            let upto = total.min(asked + TOLD);
-            self.judge_all((asked..upto).map(|_| dice.question()));
-            if upto % TOLD == 0 {
-                eprintln!("{upto} of {total} drawn files");
-            }
-        }
-    }
-
-    fn report(self) -> ! {
-        let by: Vec<String> = self.refused.iter().zip(31..).map(|(n, number)| format!("{n} by {number}")).collect();
-        println!("files: {} read; refused: {}", self.read, by.join(", "));
-        self.tally.close(&[&[self.read], &self.refused[..]].concat())
     }
 }
 
 fn main() {
     let (probe, total, dice) = arguments("files PROBE [FILES [SEED]]");
-    let mut judge = Judge { probe, ..Judge::default() };
-    judge.judge_listed();
-    judge.judge_drawn(total, dice);
-    judge.report()
+    let mut tally = Tally::new(probe);
+    judge_listed(&mut tally);
+    judge_drawn(&mut tally, total, dice);
+    tally.close("files", 31..=36)
 }

@@ -14,7 +14,7 @@ mod judging {
     pub mod tally;
 }
 
-use judging::asking::{arguments, ask, count, Dice};
+use judging::asking::{arguments, count, Dice};
 use judging::cards::{broken, examples, sound, Run, ALL};
 use judging::gauges::{gauged, Card, Gauged};
 use judging::tally::Tally;
@@ -58,86 +58,59 @@ fn next_answer(rest: &mut &[u8]) -> Option<Gauged> {
 
 // ---- judging
 
-#[derive(Default)]
-struct Judge {
-    probe: String,
-    tally: Tally,
-    /// how many samples were read
-    read: usize,
-    /// how many were refused by 21, 22 and 23
-    refused: [usize; 3],
+/// Takes the answers to a question off the bytes, and says which is the first that is not as wanted.
+fn disagreement(tally: &mut Tally, q: &Question, rest: &mut &[u8]) -> Option<String> {
+    let mut first = None;
+    for sample in q.samples() {
+        let (wanted, got) = (gauged(q.card, sample), next_answer(rest));
+        tally.want(wanted.refusal);
+        if got != Some(wanted) && first.is_none() {
+            let got = got.map_or("nothing".to_string(), |g| g.to_string());
+            first = Some(format!("{}, sample {sample}: wanted {wanted}; got {got}", q.card));
+        }
+    }
+    first
 }
 
-impl Judge {
-    /// Takes the answers to a question off the bytes, and says which is the first that is not as wanted.
-    fn disagreement(&mut self, q: &Question, rest: &mut &[u8]) -> Option<String> {
-        let mut first = None;
-        for sample in q.samples() {
-            let (wanted, got) = (gauged(q.card, sample), next_answer(rest));
-            match wanted.refusal {
-                0 => self.read += 1,
-                number => self.refused[number as usize - 21] += 1,
-            }
-            if got != Some(wanted) && first.is_none() {
-                let got = got.map_or("nothing".to_string(), |g| g.to_string());
-                first = Some(format!("{}, sample {sample}: wanted {wanted}; got {got}", q.card));
-            }
+fn judge(tally: &mut Tally, questions: &[Question]) {
+    tally.judge(questions, Question::bytes, disagreement);
+}
+
+/// The paper's examples, which the rules as they are written here must answer too.
+fn judge_examples(tally: &mut Tally) {
+    for (card, sample, answer) in examples() {
+        let own = gauged(card, sample);
+        if own != answer {
+            tally.fail(format!("{card}, sample {sample}: the paper has {answer}; the judge has {own}"));
         }
-        first
+        judge(tally, &[Question { card, runs: vec![(sample, 0)] }]);
     }
+}
 
-    fn judge(&mut self, questions: &[Question]) {
-        let answers = ask(&self.probe, &questions.iter().flat_map(Question::bytes).collect::<Vec<u8>>());
-        let mut rest = &answers[..];
-        for q in questions {
-            let disagreement = self.disagreement(q, &mut rest);
-            self.tally.note(disagreement);
+fn judge_listed(tally: &mut Tally) {
+    let cards = [sound(), broken()].concat();
+    let all: Vec<Question> = cards.into_iter().map(|card| Question { card, runs: vec![ALL] }).collect();
+    all.chunks(LISTED).for_each(|part| judge(tally, part));
+}
+
+fn judge_drawn(tally: &mut Tally, total: usize, mut dice: Dice) {
+    let mut draw = |_| {
+        let card = dice.card();
+        Question { card, runs: dice.runs(card).to_vec() }
+    };
+    for asked in (0..total).step_by(DRAWN) {
+        judge(tally, &(asked..total.min(asked + DRAWN)).map(&mut draw).collect::<Vec<Question>>());
+        if (asked + DRAWN) % 100_000 == 0 {
+            eprintln!("{} of {total} drawn cards", asked + DRAWN);
         }
-        self.tally.end(rest);
-    }
-
-    /// The paper's examples, which the rules as they are written here must answer too.
-    fn judge_examples(&mut self) {
-        for (card, sample, answer) in examples() {
-            let own = gauged(card, sample);
-            if own != answer {
-                self.tally.fail(format!("{card}, sample {sample}: the paper has {answer}; the judge has {own}"));
-            }
-            self.judge(&[Question { card, runs: vec![(sample, 0)] }]);
-        }
-    }
-
-    fn judge_listed(&mut self) {
-        let cards = [sound(), broken()].concat();
-        let all: Vec<Question> = cards.into_iter().map(|card| Question { card, runs: vec![ALL] }).collect();
-        all.chunks(LISTED).for_each(|part| self.judge(part));
-    }
-
-    fn judge_drawn(&mut self, total: usize, mut dice: Dice) {
-        let mut draw = |_| {
-            let card = dice.card();
-            Question { card, runs: dice.runs(card).to_vec() }
-        };
-        for asked in (0..total).step_by(DRAWN) {
-            self.judge(&(asked..total.min(asked + DRAWN)).map(&mut draw).collect::<Vec<Question>>());
-            if (asked + DRAWN) % 100_000 == 0 {
-                eprintln!("{} of {total} drawn cards", asked + DRAWN);
-            }
-        }
-    }
-
-    fn report(self) -> ! {
-        let (read, [card, pin, grid]) = (self.read, self.refused);
-        println!("samples: {read} read, {card} refused by 21, {pin} by 22, {grid} by 23");
-        self.tally.close(&[read, card, pin, grid])
     }
 }
 
 fn main() {
     let (probe, total, dice) = arguments("gauges PROBE [CARDS [SEED]]");
-    let mut judge = Judge { probe, ..Judge::default() };
-    judge.judge_examples();
-    judge.judge_listed();
-    judge.judge_drawn(total, dice);
-    judge.report()
+    let mut tally = Tally::new(probe);
+    judge_examples(&mut tally);
+    judge_listed(&mut tally);
+    judge_drawn(&mut tally, total, dice);
+    tally.close("samples", 21..=23)
 }

@@ -7,27 +7,29 @@
 --     longest-file      no file of more than 6,658 bytes is taken
 --     longest-there     one of 6,658 bytes is
 --     past-the-buffer   so the bytes after the first 8,192 change nothing
+--     NumberEnds at r   nothing is refused, or it is 31 or 32 at the place `at`
+--     number-ends       so it is of one number, at whatever place of whatever bytes
 --     largest-number    no number is above 2,097,151, which is 2 ^ 21 - 1
 --     square-file       document 01's file of the square holds the square
 --     forms             the forms of one number, and the empty chart's file
 -- That two outcomes coincide: Outcomes.antt. Assumes nothing.
 use mathlib.Core.Path.{_≡_, refl, ap, _∙_}
 use mathlib.Core.Logic.{_⊎_, inl, inr}
-use mathlib.Core.Bool.{true}
+use mathlib.Core.Bool.{Bool, true, false, cond, _&&_}
 use mathlib.Core.List.{List, [], _∷_}
-use Prim.Native.Nat.{ℕ, _*_, _≤_}
+use Prim.Native.Nat.{ℕ, _+_, _*_, _≤_}
 use native.Mathlib.Omega.{arith}
-use lib.Dec.{ltb}
+use lib.Dec.{ltb, leb, eqb}
 use lib.IntN.{ℤ}
-use lib.ListN.{length, take, drop}
-use Rattle.counts.specs.Count.{all, firstIndex}
+use lib.ListN.{length, getD, take, drop}
+use Rattle.counts.specs.Count.{all, any, firstIndex}
 use Rattle.record.specs.Records.{width}
 use Rattle.chart.specs.declared.Refusal.{Refusal}
 use Rattle.chart.specs.Verdicts.{limit, noRefusal}
 use Rattle.file.specs.declared.Answer.{Answer}
 use Rattle.file.specs.declared.Answer.the-variants.{Records, Refused}
 use Rattle.number.specs.declared.Number.the-variants.{Value}
-use Rattle.number.specs.Numbers.{refused, valueOf, numberIn, numberAt, signed}
+use Rattle.number.specs.Numbers.{refused, lastOf, valueOf, numberIn, numberAt, numberRefusal, signed}
 use Rattle.file.specs.Fields.{coordinate, field}
 use Rattle.file.specs.Files.{taken, refusedBy, fields, fileOf}
 use Rattle.file.specs.Answers.{readRefusal, isFileRefusal, Reads}
@@ -73,6 +75,23 @@ longest-there =
 
 pub past-the-buffer : (s : List ℕ) (room : ℕ) → fileOf (take 8192 s) room ≡ fileOf s room
 past-the-buffer = buffered
+
+abbrev pub NumberEnds : ℕ → Refusal → Type 0
+NumberEnds at r = (r ≡ noRefusal) ⊎ ((any (eqb (r .number)) (31 ∷ 32 ∷ []) ≡ true) × (r .index ≡ at))
+
+pub number-ends : (s : List ℕ) (at : ℕ) → NumberEnds at (numberRefusal (numberAt s at))
+unfolding numberIn any
+number-ends s at =
+    let bs = drop at s in
+    let k = lastOf bs in
+    go (ltb 2 k) (leb (length bs) k) (ltb 0 k && eqb (getD bs k 0) 0) (valueOf (take (k + 1) bs)) (at + (k + 1))
+  where
+    go : (a b c : Bool) (n next : ℕ) → NumberEnds at
+        (numberRefusal (cond a (refused 32 at) (cond b (refused 31 at) (cond c (refused 32 at) (Value n next)))))
+    go true b c n next = inr (refl, refl)
+    go false true c n next = inr (refl, refl)
+    go false false true n next = inr (refl, refl)
+    go false false false n next = inl refl
 
 pub largest-number : (s : List ℕ) (at n next : ℕ) → numberAt s at ≡ Value n next → n ≤ 2097151
 largest-number s at n next e = omega (arith, numberIn-size (drop at s) at n next e .small)
