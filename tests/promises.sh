@@ -16,12 +16,12 @@ for source in crates/*/src/*.rt; do
         note $? "$source: no theorem $law for the public function $name"
         [ "$name" = record_at ] && continue
         ! awk -v name="$name" '
-            $0 ~ "pub fn " name "[<(]" { on = 1 }
+            $0 ~ "pub (extern \"C\" )?fn " name "[<(]" { on = 1 }
             on && /requires/ { bad = 1 }
             on && /^ *\{/ { on = 0 }
             END { exit !bad }' "$source"
         note $? "$source: the public function $name has a requires"
-    done < <(sed -nE 's/^ *pub fn ([a-z_0-9]+).*/\1/p' "$source")
+    done < <(sed -nE 's/^ *pub (extern "C" )?fn ([a-z_0-9]+).*/\2/p' "$source")
 done
 echo "$passed passed, $failed failed"
 [ "$failed" = 0 ]

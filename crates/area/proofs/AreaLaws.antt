@@ -3,6 +3,7 @@
 --     share-is           what a record adds is its gain less its loss
 --     twiceArea-is       so twice the area is the gains less the losses
 --     areaOf-accepted, areaOf-refused      the answer in each case of the verdict
+--     areaOf-refusal     the chart's refusal is given first, and none where it is answered
 -- Assumes nothing.
 use mathlib.Core.Path.{_≡_, refl, sym, ap, ap₂, _∙_}
 use mathlib.Core.Logic.{_⊎_, inl, inr}
@@ -24,10 +25,11 @@ use Rattle.record.specs.Records.{records, marked}
 use Rattle.record.specs.Order.{left}
 use Rattle.segment.specs.Segments.{segment}
 use Rattle.chart.specs.declared.Refusal.{Refusal}
+use Rattle.chart.specs.declared.Verdict.{Verdict}
 use Rattle.chart.specs.declared.Verdict.the-variants as told
-use Rattle.chart.specs.Verdicts.{verdict}
+use Rattle.chart.specs.Verdicts.{refusalOf, verdict}
 use Rattle.area.specs.declared.Area.the-variants.{Twice, Refused}
-use Rattle.area.specs.Areas.{total, share, twiceArea, areaOf}
+use Rattle.area.specs.Areas.{total, share, twiceArea, areaIf, areaOf, areaRefusal}
 use Rattle.area.specs.Sums.{ground, across, strip, gain, loss, Term}
 
 -- ---- one record
@@ -107,3 +109,11 @@ module _ (s : List ℤ) where
   pub areaOf-refused : (r : Refusal) → verdict s ≡ told.Refused r → areaOf s ≡ Refused r
   unfolding areaOf
   areaOf-refused r e = rw e
+
+pub areaOf-refusal : (s : List ℤ) → areaRefusal (areaOf s) ≡ refusalOf (verdict s)
+unfolding areaOf
+areaOf-refusal s = by-verdict (verdict s)
+  where
+    by-verdict : (v : Verdict) → areaRefusal (areaIf v (twiceArea (records s))) ≡ refusalOf v
+    by-verdict told.Accepted = refl
+    by-verdict (told.Refused r) = refl

@@ -4,3 +4,4 @@ pub mod HalvesLaws
 pub mod VerdictLaws
 pub mod RegionLaws
 pub mod OnceLaws
+pub mod IndexLaws

@@ -1,17 +1,23 @@
 -- Why a file is refused (document 01: "Refusals, by first place met").
---     Told s r            r is one of the refusals 31 to 36, and its place is one of the file s, or its end
+--     InFile s at         at is a place of the file s or its end, and no further than the longest file that can be
+--                         taken is long
+--     Told s r            r is one of the refusals 31 to 36, and its place is such a one
+--     numbers             its number is no more than 36
 --     fileOf-told         so is every refusal of a file
 --     fileOf-end          a file that is taken is read to its end
 -- Assumes nothing.
-use mathlib.Core.Path.{_≡_, refl, subst}
-use mathlib.Core.Bool.{Bool, true, false, cond, _&&_}
+use mathlib.Core.Path.{_≡_, refl, sym, subst, _∙_}
+use mathlib.Core.Logic.{_⊎_, inl, inr}
+use mathlib.Core.Bool.{Bool, true, false, cond, _&&_, true≢false}
 use mathlib.Core.List.{List}
-use Prim.Native.Nat.{ℕ, zero, suc, _+_, _*_, _≤_, zero-le}
+use Prim.Native.Nat.{ℕ, zero, suc, _+_, _*_, _<_, _≤_, zero-le}
 use native.Mathlib.Omega.{arith}
 use lib.Dec.{leb, ltb, eqb}
 use lib.IntN.{ℤ, pos}
 use lib.ListN.{length, getD, take, drop, length-drop}
+use borrow.Author.Tests.{ltb-false, ne-eqb}
 use Rattle.counts.specs.Count.{any}
+use Rattle.counts.proofs.TestLaws.{lt-or-le}
 use Rattle.grid.specs.Coordinates.{onGrid}
 use Rattle.record.specs.Records.{width}
 use Rattle.chart.specs.declared.Refusal.{Refusal}
@@ -27,14 +33,42 @@ use Rattle.file.specs.Files.{fileOf}
 use Rattle.file.specs.Answers.{isFileRefusal}
 use Rattle.number.proofs.SizeLaws.{numberIn-size}
 use Rattle.file.proofs.TakenLaws.{fileOf-parts}
+use Rattle.file.proofs.LengthLaws.{most, most-records, fieldAt-size, count-next}
+
+pub record InFile (s : List ℕ) (at : ℕ) : Type 0 where
+  pub within : at ≤ length s
+  pub near : at ≤ 2 + 13 * limit
 
 pub record Told (s : List ℕ) (r : Refusal) : Type 0 where
   pub number : isFileRefusal (r .number) ≡ true
-  pub place : r .index ≤ length s
+  pub place : InFile s (r .index)
+
+-- so its number is no more than 36
+pub numbers : (k : ℕ) → isFileRefusal k ≡ true → k ≤ 36
+unfolding any
+numbers k e = go (lt-or-le 36 k)
+  where
+    none : 36 < k → isFileRefusal k ≡ false
+    none l =
+        rw (
+          ne-eqb k 31 (λ h. omega arith),
+          ne-eqb k 32 (λ h. omega arith),
+          ne-eqb k 33 (λ h. omega arith),
+          ne-eqb k 34 (λ h. omega arith),
+          ne-eqb k 35 (λ h. omega arith),
+          ne-eqb k 36 (λ h. omega arith),
+        )
+
+    go : (36 < k) ⊎ (k ≤ 36) → k ≤ 36
+    go (inl l) = absurd (true≢false (sym e ∙ none l))
+    go (inr l) = l
 
 -- a refusal of one of these numbers at a place of the file
-told : (s : List ℕ) (k at : ℕ) → isFileRefusal k ≡ true → at ≤ length s → Told s (record { number = k; index = at })
+told : (s : List ℕ) (k at : ℕ) → isFileRefusal k ≡ true → InFile s at → Told s (record { number = k; index = at })
 told s k at h l = record { number = h; place = l }
+
+first-place : (s : List ℕ) → InFile s 0
+first-place s = record { within = zero-le; near = zero-le }
 
 module _ (s : List ℕ) where
   -- ---- one number
@@ -45,10 +79,10 @@ module _ (s : List ℕ) where
 
   -- of a number that is not refused nothing is said yet
   abbrev NumberLeft : ℕ → Number → Type 0
-  NumberLeft at (number.Value n next) = at ≤ length s
+  NumberLeft at (number.Value n next) = InFile s at
   NumberLeft at (number.Refused r) = Told s r
 
-  number-left : (at : ℕ) → at ≤ length s → NumberLeft at (numberAt s at)
+  number-left : (at : ℕ) → InFile s at → NumberLeft at (numberAt s at)
   unfolding numberIn any
   number-left at l =
       let bs = drop at s in
@@ -62,12 +96,12 @@ module _ (s : List ℕ) where
       go false false true n next = told s 32 at refl l
       go false false false n next = l
 
-  number-told : (at : ℕ) → at ≤ length s → NumberTold (numberAt s at)
+  number-told : (at : ℕ) → InFile s at → NumberTold (numberAt s at)
   number-told at l = go (numberAt s at) refl (number-left at l)
     where
       go : (x : Number) → numberAt s at ≡ x → NumberLeft at x → NumberTold x
       go (number.Value n next) e h =
-          omega (arith, numberIn-size (drop at s) at n next e .within, length-drop at s)
+          omega (arith, h .within, numberIn-size (drop at s) at n next e .within, length-drop at s)
       go (number.Refused r) e h = h
 
   -- ---- one number for the array
@@ -76,7 +110,7 @@ module _ (s : List ℕ) where
   FieldTold (field.Value z next) = next ≤ length s
   FieldTold (field.Refused r) = Told s r
 
-  field-told : (k n at next : ℕ) → at ≤ length s → next ≤ length s → FieldTold (field k n at next)
+  field-told : (k n at next : ℕ) → InFile s at → next ≤ length s → FieldTold (field k n at next)
   unfolding field coordinate any
   field-told k n at next l h = go (isMark k) (leb n 1) (onGrid (signed n))
     where
@@ -87,7 +121,7 @@ module _ (s : List ℕ) where
       go false b true = h
       go false b false = told s 33 at refl l
 
-  fieldAt-told : (k at : ℕ) → at ≤ length s → FieldTold (fieldAt s k at)
+  fieldAt-told : (k at : ℕ) → InFile s at → FieldTold (fieldAt s k at)
   fieldAt-told k at l = go (numberAt s at) (number-told at l)
     where
       go : (x : Number) → NumberTold x → FieldTold (fieldIn k at x)
@@ -97,22 +131,29 @@ module _ (s : List ℕ) where
   -- ---- a file
 
   abbrev TakenTold : Taken → Type 0
-  TakenTold (taken zs end) = end ≤ length s
+  TakenTold (taken zs end) = InFile s end
   TakenTold (refused r) = Told s r
 
-  fields-told : (k m at : ℕ) → at ≤ length s → TakenTold (fields s k m at)
-  unfolding fields
-  fields-told k zero at l = l
-  fields-told k (suc m) at l = go (fieldAt s k at) (fieldAt-told k at l) (λ next. fields-told (suc k) m next)
+  fields-told : (k m at : ℕ) → at ≤ length s → at + most k m ≤ 2 + 13 * limit → TakenTold (fields s k m at)
+  unfolding fields most
+  fields-told k zero at l h = record { within = l; near = omega arith }
+  fields-told k (suc m) at l h =
+      let x = fieldAt s k at in
+      let here : InFile s at = record { within = l; near = omega arith } in
+      go x refl (fieldAt-told k at here) (λ next. fields-told (suc k) m next)
     where
       one-more : (z : ℤ) (t : Taken) → TakenTold t → TakenTold (onto z t)
-      one-more z (taken zs end) h = h
-      one-more z (refused r) h = h
+      one-more z (taken zs end) g = g
+      one-more z (refused r) g = g
 
-      go : (x : Field) → FieldTold x → ((next : ℕ) → next ≤ length s → TakenTold (fields s (suc k) m next))
+      go : (x : Field) → fieldAt s k at ≡ x → FieldTold x
+          → ((next : ℕ) → next ≤ length s → next + most (suc k) m ≤ 2 + 13 * limit
+          → TakenTold (fields s (suc k) m next))
           → TakenTold (after x (λ next. fields s (suc k) m next))
-      go (field.Value z next) h rest = one-more z (fields s (suc k) m next) (rest next h)
-      go (field.Refused r) h rest = h
+      go (field.Value z next) e g rest =
+          let near = fieldAt-size s k at z next e in
+          one-more z (fields s (suc k) m next) (rest next g (omega arith))
+      go (field.Refused r) e g rest = g
 
   whole-told : (t : Taken) → TakenTold t → TakenTold (whole s t)
   unfolding any
@@ -125,17 +166,21 @@ module _ (s : List ℕ) where
 
   file-told : (room : ℕ) → TakenTold (fileOf s room)
   unfolding fileOf any
-  file-told room = by-count (numberAt s 0) (number-told 0 zero-le)
+  file-told room = by-count (numberAt s 0) refl (number-told 0 (first-place s))
     where
-      by-tests : (a b : Bool) (n next : ℕ) → next ≤ length s
+      by-tests : (a b : Bool) (n next : ℕ) → ltb limit n ≡ a → numberAt s 0 ≡ number.Value n next → next ≤ length s
           → TakenTold (cond a (refusedBy 35 0) (cond b (refusedBy 36 0) (recordsOf s n next)))
-      by-tests true b n next h = told s 35 0 refl zero-le
-      by-tests false true n next h = told s 36 0 refl zero-le
-      by-tests false false n next h = whole-told (fields s 0 (width * n) next) (fields-told 0 (width * n) next h)
+      by-tests true b n next few e h = told s 35 0 refl (first-place s)
+      by-tests false true n next few e h = told s 36 0 refl (first-place s)
+      by-tests false false n next few e h =
+          let l = ltb-false limit n few in
+          let near = count-next s n next e l in
+          let long = most-records 0 n in
+          whole-told (fields s 0 (width * n) next) (fields-told 0 (width * n) next h (omega arith))
 
-      by-count : (x : Number) → NumberTold x → TakenTold (counted s room x)
-      by-count (number.Value n next) h = by-tests (ltb limit n) (ltb room (width * n)) n next h
-      by-count (number.Refused r) h = h
+      by-count : (x : Number) → numberAt s 0 ≡ x → NumberTold x → TakenTold (counted s room x)
+      by-count (number.Value n next) e h = by-tests (ltb limit n) (ltb room (width * n)) n next refl e h
+      by-count (number.Refused r) e h = h
 
   pub fileOf-told : (room : ℕ) {r : Refusal} → fileOf s room ≡ refused r → Told s r
   fileOf-told room e = subst TakenTold e (file-told room)
@@ -143,5 +188,5 @@ module _ (s : List ℕ) where
   -- a file that is taken is read to its end
   pub fileOf-end : (room end : ℕ) (zs : List ℤ) → fileOf s room ≡ taken zs end → end ≡ length s
   fileOf-end room end zs e =
-      let within : end ≤ length s = subst TakenTold e (file-told room) in
-      omega (arith, fileOf-parts s room end zs e .ends)
+      let last : InFile s end = subst TakenTold e (file-told room) in
+      omega (arith, last .within, fileOf-parts s room end zs e .ends)

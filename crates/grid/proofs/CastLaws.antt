@@ -1,7 +1,7 @@
 -- What the casts, the sum and the difference of `count_of` and `number_at` ask, as the language states them: a signed
 -- value goes through its bits, `toZ w (ofZ w z)`. Here it is brought back to the number once.
 --     widened-fits, sum-fits, count-is              up: a number, widened, and 32,768 more
---     pointOf-passed                                two coordinates passed on to a call
+--     pointOf-cast, pointOf-passed                  two coordinates passed on to a call
 --     difference-fits, narrowed-fits, number-is     down: a count, widened, and 32,768 less
 --     natural-fits          for any caller: a number of 64 bits that is not below zero can be cast to unsigned
 -- The sum and the difference fit at any step k, so that a wrong step is refused for what it answers.
@@ -31,9 +31,13 @@ mag-sub m n h g = go (ltb m n) refl
     go true e = omega arith
     go false e = omega arith
 
+pub pointOf-cast : (x y : ℤ) → SFits w16 x → SFits w16 y
+    → pointOf (toZ w16 (ofZ w16 x)) (toZ w16 (ofZ w16 y)) ≡ pointOf x y
+pointOf-cast x y f g = ap₂ pointOf (toZ-ofZ w16 x f) (toZ-ofZ w16 y g)
+
 pub pointOf-passed : (x y : ℤ) {p : Point} → SFits w16 x → SFits w16 y
     → p ≡ pointOf (toZ w16 (ofZ w16 x)) (toZ w16 (ofZ w16 y)) → p ≡ pointOf x y
-pointOf-passed x y f g e = e ∙ ap₂ pointOf (toZ-ofZ w16 x f) (toZ-ofZ w16 y g)
+pointOf-passed x y f g e = e ∙ pointOf-cast x y f g
 
 pub natural-fits : (z : ℤ) → SFits w64 z → ltZ z (pos 0) ≡ false → T (nonNeg z) × Fits w64 (natAbs z)
 natural-fits (pos n) h e = (tt, record { fits = omega (arith, h .sfits) })

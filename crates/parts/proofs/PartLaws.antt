@@ -1,22 +1,33 @@
 -- Laws of the parts that are handed back (specs/Parts.antt), case by case as a program finds them.
 --     fromSecond-short, fromSecond-alone, fromSecond-both    by which arrays have a whole record
 --     fromSecond-whole         the second array's head is there if it is the smaller
---     headLength-second, headLength-first, headLength-none   the length in each case
---     runStart-none, runEnd-none, runStart-some, runEnd-some    the run, from the two places that were found
+--     headOf-second, headOf-neither, headOf-first            which array holds the smaller head, in each case
+--     first-whole, second-whole                              and that it has a whole record
+--     runOf-none, runOf-some   the run, from the two places that were found
+--     Within s a, run-within    a lies in s, and so does the run
 -- Assumes nothing.
-use mathlib.Core.Path.{_≡_, refl, sym, ap, _∙_}
-use mathlib.Core.Bool.{Bool, true, false, not, cond, _&&_, _||_, true≢false}
+use mathlib.Core.Path.{_≡_, refl, sym, ap, subst}
+use mathlib.Core.Logic.{_⊎_, inl, inr}
+use mathlib.Core.Bool.{Bool, true, false, cond}
 use mathlib.Core.List.{List}
-use Prim.Native.Nat.{ℕ, _*_, _<_, _≤_}
+use Prim.Native.Nat.{ℕ, _*_, _<_, _≤_, zero-le}
+use native.Mathlib.Omega.{arith}
 use lib.IntN.{ℤ}
 use lib.ListN.{length}
 use borrow.Author.Tests.{leb-true, lt-leb, le-leb, lt-ltb, le-ltb}
 use Rattle.counts.specs.Scan.{firstFrom}
-use Rattle.counts.proofs.TestLaws.{and-true}
+use Rattle.counts.proofs.TestLaws.{and-true, lt-or-le}
+use Rattle.counts.proofs.ScanLaws.{firstFrom-low, firstFrom-high}
 use Rattle.plane.specs.declared.Point.{Point}
 use Rattle.record.specs.Records.{width, recordAt, recordCount}
 use Rattle.record.specs.Order.{precedes}
-use Rattle.parts.specs.Parts.{offCorner, firstThere, runStart, runEnd, wholeRecord, fromSecond, headLength}
+use Rattle.parts.specs.declared.Span.{Span}
+use Rattle.parts.specs.declared.Head.{Head}
+use Rattle.parts.specs.declared.Head.the-variants.{Neither, First, Second}
+use Rattle.parts.specs.Parts.{nowhere, atCorner, offCorner, firstThere, runOf, wholeRecord, fromSecond, headOf}
+
+abbrev pub Within : List ℤ → Span → Type 0
+Within s a = (a .from ≤ a .upto) × (a .upto ≤ length s)
 
 -- ---- the smaller head
 
@@ -37,47 +48,66 @@ module _ (a b : List ℤ) where
   unfolding fromSecond
   fromSecond-whole e = leb-true width (length b) (and-true _ _ e .0)
 
-  pub headLength-first : width ≤ length a → headLength a b ≡ width
-  unfolding headLength
-  headLength-first l = rw (le-leb width (length a) l)
+  -- ---- which array holds it
 
-  pub headLength-second : fromSecond a b ≡ true → headLength a b ≡ width
-  unfolding headLength
-  headLength-second e = go (wholeRecord a) (le-leb width (length b) (fromSecond-whole e))
+  pub headOf-second : fromSecond a b ≡ true → Second ≡ headOf a b
+  unfolding headOf
+  headOf-second e = rw e
+
+  pub headOf-neither : fromSecond a b ≡ false → length a < width → Neither ≡ headOf a b
+  unfolding headOf
+  headOf-neither e l = rw (e, lt-leb width (length a) l)
+
+  pub headOf-first : fromSecond a b ≡ false → width ≤ length a → First ≡ headOf a b
+  unfolding headOf
+  headOf-first e l = rw (e, le-leb width (length a) l)
+
+  -- the array that holds it has a whole record
+  abbrev Holds : Head → Type 0
+  Holds Neither = 0 ≤ 0
+  Holds First = width ≤ length a
+  Holds Second = width ≤ length b
+
+  holds : Holds (headOf a b)
+  unfolding headOf
+  holds = go (fromSecond a b) (wholeRecord a) refl refl
     where
-      go : (c : Bool) → wholeRecord b ≡ true → cond (c || wholeRecord b) width 0 ≡ width
-      go true h = refl
-      go false h = rw h
+      go : (c d : Bool) → fromSecond a b ≡ c → wholeRecord a ≡ d → Holds (cond c Second (cond d First Neither))
+      go true d e h = fromSecond-whole e
+      go false true e h = leb-true width (length a) h
+      go false false e h = zero-le
 
-  pub headLength-none : fromSecond a b ≡ false → length a < width → headLength a b ≡ 0
-  unfolding fromSecond headLength
-  headLength-none e l = go (wholeRecord b) refl
-    where
-      short : wholeRecord a ≡ false
-      short = lt-leb width (length a) l
+  pub first-whole : headOf a b ≡ First → width ≤ length a
+  first-whole e = subst Holds e holds
 
-      go : (c : Bool) → wholeRecord b ≡ c → cond (wholeRecord a || wholeRecord b) width 0 ≡ 0
-      go true h =
-          absurd (true≢false (sym (ap (λ t. t && (not (wholeRecord a) || precedes (recordAt b 0) (recordAt a 0))) h
-          ∙ ap (λ t. not t || precedes (recordAt b 0) (recordAt a 0)) short) ∙ e))
-      go false h = rw (short, h)
+  pub second-whole : headOf a b ≡ Second → width ≤ length b
+  second-whole e = subst Holds e holds
 
 -- ---- the run
 
-module _ (s : List ℤ) (p : Point) {i : ℕ} (first : i ≡ firstThere s p) where
-  pub runStart-none : recordCount s ≤ i → runStart s p ≡ 0
-  unfolding runStart
-  runStart-none l = rw (sym first, le-ltb i (recordCount s) l)
+module _ (s : List ℤ) (p : Point) where
+  module _ {i : ℕ} (first : i ≡ firstThere s p) where
+    pub runOf-none : recordCount s ≤ i → runOf s p ≡ nowhere
+    unfolding runOf
+    runOf-none l = rw (sym first, le-ltb i (recordCount s) l)
 
-  pub runEnd-none : recordCount s ≤ i → runEnd s p ≡ 0
-  unfolding runEnd
-  runEnd-none l = rw (sym first, le-ltb i (recordCount s) l)
+    pub runOf-some : {j : ℕ} → j ≡ firstFrom (offCorner p) (recordAt s) i (recordCount s) → i < recordCount s
+        → runOf s p ≡ record { from = width * i; upto = width * j }
+    unfolding runOf
+    runOf-some {j} e l =
+        rw (sym first, lt-ltb i (recordCount s) l) (ap (λ n. record { from = width * i; upto = width * n }) (sym e))
 
-  pub runStart-some : i < recordCount s → runStart s p ≡ width * i
-  unfolding runStart
-  runStart-some l = rw (sym first, lt-ltb i (recordCount s) l)
+  -- it lies in the array
+  pub run-within : {a : Span} → a ≡ runOf s p → Within s a
+  run-within e = rw e (go (lt-or-le (firstThere s p) (recordCount s)))
+    where
+      there : firstThere s p ≤ recordCount s
+      there = firstFrom-high (atCorner p) (recordAt s) 0 (recordCount s) zero-le
 
-  pub runEnd-some : {j : ℕ} → j ≡ firstFrom (offCorner p) (recordAt s) i (recordCount s) → i < recordCount s
-      → runEnd s p ≡ width * j
-  unfolding runEnd
-  runEnd-some e l = rw (sym first, lt-ltb i (recordCount s) l) (ap (λ n. width * n) (sym e))
+      go : (firstThere s p < recordCount s) ⊎ (recordCount s ≤ firstThere s p) → Within s (runOf s p)
+      go (inl l) =
+          rw (runOf-some refl refl l) (
+            omega (arith, firstFrom-low (offCorner p) (recordAt s) (firstThere s p) (recordCount s) there),
+            omega (arith, firstFrom-high (offCorner p) (recordAt s) (firstThere s p) (recordCount s) there),
+          )
+      go (inr l) = rw (runOf-none refl l) (zero-le, zero-le)

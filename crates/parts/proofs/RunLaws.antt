@@ -13,7 +13,6 @@ use native.Mathlib.Nat.{add-zero, add-suc, add-sub-of-le}
 use native.Mathlib.Omega.{arith}
 use lib.IntN.{ℤ}
 use borrow.Author.Tests.{not-true, not-false}
-use Rattle.counts.specs.Scan.{firstFrom}
 use Rattle.counts.proofs.TestLaws.{is-false, lt-or-le}
 use Rattle.counts.proofs.ScanLaws.{firstFrom-low, firstFrom-high, firstFrom-passes, firstFrom-fails}
 use Rattle.counts.proofs.ScanLaws.{firstFrom-least}
@@ -25,8 +24,8 @@ use Rattle.record.specs.declared.Record.{Record}
 use Rattle.record.specs.Records.{width, recordAt, recordCount}
 use Rattle.record.specs.Order.{precedes}
 use Rattle.record.proofs.OrderLaws.{Precedes, precedes-true}
-use Rattle.parts.specs.Parts.{atCorner, offCorner, firstThere, runStart, runEnd}
-use Rattle.parts.proofs.PartLaws.{runStart-some, runEnd-none, runEnd-some}
+use Rattle.parts.specs.Parts.{atCorner, offCorner, firstThere, firstPast, runOf}
+use Rattle.parts.proofs.PartLaws.{runOf-none, runOf-some}
 
 abbrev pub InOrder : List ℤ → Type 0
 InOrder s = (i : ℕ) → suc i < recordCount s → precedes (recordAt s i) (recordAt s (suc i)) ≡ true
@@ -53,20 +52,16 @@ module _ (s : List ℤ) where
           (first-dom (recordAt s (i + k)) (recordAt s (suc (i + k))) (o (i + k) (omega arith))))
 
   module _ (p : Point) where
-    -- the first place past the run
-    abbrev pub past : ℕ
-    past = firstFrom (offCorner p) (recordAt s) (firstThere s p) (recordCount s)
-
     in-range : firstThere s p ≤ recordCount s
     in-range = firstFrom-high (atCorner p) (recordAt s) 0 (recordCount s) zero-le
 
-    in-run-there : (i : ℕ) → firstThere s p ≤ i → i < past → atCorner p (recordAt s i) ≡ true
+    in-run-there : (i : ℕ) → firstThere s p ≤ i → i < firstPast s p → atCorner p (recordAt s i) ≡ true
     in-run-there i h l =
         not-false _ (firstFrom-fails (offCorner p) (recordAt s) (firstThere s p) (recordCount s) in-range i h l)
 
     there-in-run : InOrder s → (i : ℕ) → i < recordCount s → atCorner p (recordAt s i) ≡ true
-        → (firstThere s p ≤ i) × (i < past)
-    there-in-run o i short there = (starts, ends (lt-or-le i past))
+        → (firstThere s p ≤ i) × (i < firstPast s p)
+    there-in-run o i short there = (starts, ends (lt-or-le i (firstPast s p)))
       where
         starts : firstThere s p ≤ i
         starts = firstFrom-least (atCorner p) (recordAt s) 0 (recordCount s) zero-le i zero-le there
@@ -94,14 +89,14 @@ module _ (s : List ℤ) where
                 let high = doms-rise o j i hi short in
                 absurd (true≢false (sym l ∙ sym (ap (λ t. before t (recordAt s j .dom)) at-end) ∙ high))
 
-        ends : (i < past) ⊎ (past ≤ i) → i < past
+        ends : (i < firstPast s p) ⊎ (firstPast s p ≤ i) → i < firstPast s p
         ends (inl l) = l
-        ends (inr l) = absurd (true≢false (sym (between past low l) ∙ not-true _ off))
+        ends (inr l) = absurd (true≢false (sym (between (firstPast s p) low l) ∙ not-true _ off))
           where
-            low : firstThere s p ≤ past
+            low : firstThere s p ≤ firstPast s p
             low = firstFrom-low (offCorner p) (recordAt s) (firstThere s p) (recordCount s) in-range
 
-            off : offCorner p (recordAt s past) ≡ true
+            off : offCorner p (recordAt s (firstPast s p)) ≡ true
             off =
                 firstFrom-passes (offCorner p) (recordAt s) (firstThere s p) (recordCount s) in-range
                 (omega (arith, l))
@@ -111,17 +106,19 @@ module _ (s : List ℤ) where
     some-there : (i : ℕ) → i < recordCount s → firstThere s p ≤ i → firstThere s p < recordCount s
     some-there i short l = omega arith
 
-    pub run-only : (i : ℕ) → runStart s p ≤ width * i → width * i < runEnd s p → atCorner p (recordAt s i) ≡ true
+    pub run-only : (i : ℕ) → runOf s p .from ≤ width * i → width * i < runOf s p .upto
+        → atCorner p (recordAt s i) ≡ true
     run-only i lo hi = go (lt-or-le (firstThere s p) (recordCount s))
       where
         go : (firstThere s p < recordCount s) ⊎ (recordCount s ≤ firstThere s p) → atCorner p (recordAt s i) ≡ true
         go (inl l) =
-            in-run-there i (omega (arith, runStart-some s p refl l)) (omega (arith, runEnd-some s p refl refl l))
-        go (inr l) = absurd (omega (arith, runEnd-none s p refl l))
+            let e = runOf-some s p refl refl l in
+            in-run-there i (omega (arith, rw e at lo)) (omega (arith, rw e at hi))
+        go (inr l) = absurd (omega (arith, rw (runOf-none s p refl l) at hi))
 
     pub run-all : InOrder s → (i : ℕ) → i < recordCount s → atCorner p (recordAt s i) ≡ true
-        → (runStart s p ≤ width * i) × (width * i < runEnd s p)
+        → (runOf s p .from ≤ width * i) × (width * i < runOf s p .upto)
     run-all o i short there =
         let within = there-in-run o i short there in
-        let some = some-there i short (within .0) in
-        (omega (arith, runStart-some s p refl some), omega (arith, runEnd-some s p refl refl some))
+        rw (runOf-some s p refl refl (some-there i short (within .0)))
+        (omega (arith, within .0), omega (arith, within .1))

@@ -1,15 +1,17 @@
 -- The parts of a chart array that are handed back (document 01, "Points, corners and heads").
---     Part s a e r       r is that very part of s, from number a up to number e: its numbers, and where it points
+--     Part s a r         r is that very part of s, from number `a .from` up to number `a .upto`: its numbers, and where
+--                        it points
+--     nowhere            the empty part at an array's beginning
 --     atCorner p r       r's dominating end is p; offCorner is the opposite
---     runStart s p, runEnd s p    the run of records at p: from the first that is there to the first later one that is
---                        not, as places of numbers in s. Both 0 where there is none: the empty part at the array's
---                        beginning
+--     runOf s p          where the run of records at p lies in s: from the first that is there to the first later one
+--                        that is not; nowhere where there is none
 --     Run s p r          r is that run of s
 --     wholeRecord s      s has a whole record left: five numbers
 --     fromSecond a b     the smaller head is the second array's: it has one, and comes strictly earlier or the first
 --                        has none
---     headLength a b     five numbers, or none where both arrays have fewer
---     SmallerHead a b r  r is the smaller head of a and b, a part of whichever holds it
+--     headOf a b         which array holds the smaller head, neither where both have fewer than five numbers
+--     SmallerHead a b r  r is the smaller head of a and b, a part of whichever holds it; else the empty part at the
+--                        first array's beginning
 -- These ask nothing of the array: it need be no chart. Assumes nothing.
 use mathlib.Core.Path.{_≡_}
 use mathlib.Core.Bool.{Bool, not, cond, _&&_, _||_}
@@ -25,12 +27,18 @@ use Rattle.plane.specs.Points.{same}
 use Rattle.record.specs.declared.Record.{Record}
 use Rattle.record.specs.Records.{width, recordAt, recordCount}
 use Rattle.record.specs.Order.{precedes}
+use Rattle.parts.specs.declared.Span.{Span}
+use Rattle.parts.specs.declared.Head.{Head}
+use Rattle.parts.specs.declared.Head.the-variants.{Neither, First, Second}
 
 -- a number takes two bytes
-pub record Part (s : RefT (List ℤ)) (a e : ℕ) (r : RefT (List ℤ)) : Type 0 where
-  pub numbers : r .now ≡ take (e - a) (drop a (s .now))
+pub record Part (s : RefT (List ℤ)) (a : Span) (r : RefT (List ℤ)) : Type 0 where
+  pub numbers : r .now ≡ take (a .upto - a .from) (drop (a .from) (s .now))
   pub array : r .ptr .0 ≡ s .ptr .0
-  pub place : r .ptr .1 ≡ s .ptr .1 + a * 2
+  pub place : r .ptr .1 ≡ s .ptr .1 + a .from * 2
+
+abbrev pub nowhere : Span
+nowhere = record { from = 0; upto = 0 }
 
 -- ---- the run at a corner
 
@@ -43,16 +51,17 @@ offCorner p r = not (atCorner p r)
 abbrev pub firstThere : List ℤ → Point → ℕ
 firstThere s p = firstFrom (atCorner p) (recordAt s) 0 (recordCount s)
 
-unfoldable pub runStart : List ℤ → Point → ℕ
-runStart s p = cond (ltb (firstThere s p) (recordCount s)) (width * firstThere s p) 0
+-- the first later place that is not at p
+abbrev pub firstPast : List ℤ → Point → ℕ
+firstPast s p = firstFrom (offCorner p) (recordAt s) (firstThere s p) (recordCount s)
 
-unfoldable pub runEnd : List ℤ → Point → ℕ
-runEnd s p =
+unfoldable pub runOf : List ℤ → Point → Span
+runOf s p =
     cond (ltb (firstThere s p) (recordCount s))
-    (width * firstFrom (offCorner p) (recordAt s) (firstThere s p) (recordCount s)) 0
+    (record { from = width * firstThere s p; upto = width * firstPast s p }) nowhere
 
 abbrev pub Run : RefT (List ℤ) → Point → RefT (List ℤ) → Type 0
-Run s p r = Part s (runStart (s .now) p) (runEnd (s .now) p) r
+Run s p r = Part s (runOf (s .now) p) r
 
 -- ---- the smaller head
 
@@ -62,8 +71,18 @@ wholeRecord s = leb width (length s)
 unfoldable pub fromSecond : List ℤ → List ℤ → Bool
 fromSecond a b = wholeRecord b && (not (wholeRecord a) || precedes (recordAt b 0) (recordAt a 0))
 
-unfoldable pub headLength : List ℤ → List ℤ → ℕ
-headLength a b = cond (wholeRecord a || wholeRecord b) width 0
+unfoldable pub headOf : List ℤ → List ℤ → Head
+headOf a b = cond (fromSecond a b) Second (cond (wholeRecord a) First Neither)
+
+abbrev pub holder : Head → RefT (List ℤ) → RefT (List ℤ) → RefT (List ℤ)
+holder Neither a b = a
+holder First a b = a
+holder Second a b = b
+
+abbrev pub firstRecord : Head → Span
+firstRecord Neither = nowhere
+firstRecord First = record { from = 0; upto = width }
+firstRecord Second = record { from = 0; upto = width }
 
 abbrev pub SmallerHead : RefT (List ℤ) → RefT (List ℤ) → RefT (List ℤ) → Type 0
-SmallerHead a b r = Part (cond (fromSecond (a .now) (b .now)) b a) 0 (headLength (a .now) (b .now)) r
+SmallerHead a b r = let h = headOf (a .now) (b .now) in Part (holder h a b) (firstRecord h) r

@@ -4,11 +4,24 @@ ghost use Prim.Native.Nat.{_+_, _*_, _≤_};
 ghost use lib.ListN.{length};
 ghost use Rattle.counts.specs.Scan.{Found};
 ghost use Rattle.record.specs.Records.{width, recordAt};
-ghost use Rattle.parts.specs.Parts.{atCorner, offCorner, Run, fromSecond, SmallerHead};
+ghost use Rattle.parts.specs.Parts.{atCorner, offCorner, runOf, Run, fromSecond, headOf, SmallerHead};
 use plane::Point;
 use record::WIDTH;
 use record::order::is_earlier;
 use record::record_at;
+
+// Where a part lies in its array: from one number up to another.
+pub struct Span {
+    pub from: usize,
+    pub upto: usize,
+}
+
+// Which of two arrays holds the smaller head.
+pub enum Head {
+    Neither,
+    First,
+    Second,
+}
 
 // ---- the run at a corner
 
@@ -55,19 +68,30 @@ fn first_elsewhere(s: &[i16], p: Point, a: usize, n: usize) -> usize
     n
 }
 
-// The run of records whose dominating end is p, as that very part of the array. Where the array is ordered these are
-// all of them; of any other array it is the first run.
-pub fn run_at(s: &[i16], p: Point) -> &[i16]
-    ensures { λ r. ⌜ Run (s .entry) p r ⌝ }
+// Where the run of records whose dominating end is p lies. Where the array is ordered these are all of them; of any
+// other array it is the first run.
+pub fn run_of(s: &[i16], p: Point) -> Span
+    ensures { λ r. ⌜ r ≡ runOf (now (s .entry)) p ⌝ }
 {
     let n = s.len() / WIDTH;
     let a = first_there(s, p, n);
     if n <= a {
-        return &s[0..0];
+        return Span { from: 0, upto: 0 };
     }
     let e = first_elsewhere(s, p, a, n);
-    let from = WIDTH * a;
-    let upto = WIDTH * e;
+    Span {
+        from: WIDTH * a,
+        upto: WIDTH * e,
+    }
+}
+
+// That run, as that very part of the array.
+pub fn run_at(s: &[i16], p: Point) -> &[i16]
+    ensures { λ r. ⌜ Run (s .entry) p r ⌝ }
+{
+    let run = run_of(s, p);
+    let from = run.from;
+    let upto = run.upto;
     &s[from..upto]
 }
 
@@ -86,17 +110,28 @@ fn is_from_second(a: &[i16], b: &[i16]) -> bool
     is_earlier(record_at(b, 0), record_at(a, 0))
 }
 
+pub fn head_of(a: &[i16], b: &[i16]) -> Head
+    ensures { λ h. ⌜ h ≡ headOf (now (a .entry)) (now (b .entry)) ⌝ }
+{
+    if is_from_second(a, b) {
+        return Head::Second;
+    }
+    if a.len() < WIDTH {
+        return Head::Neither;
+    }
+    Head::First
+}
+
 // The first record of whichever array has the smaller, as that very part of it. Empty, at the first array's beginning,
 // where neither has a whole record.
 pub fn smaller_head<'a>(a: &'a [i16], b: &'a [i16]) -> &'a [i16]
     ensures { λ r. ⌜ SmallerHead (a .entry) (b .entry) r ⌝ }
 {
     let w = WIDTH;
-    if is_from_second(a, b) {
-        return &b[0..w];
+    let h = head_of(a, b);
+    match h {
+        Head::Neither => &a[0..0],
+        Head::First => &a[0..w],
+        Head::Second => &b[0..w],
     }
-    if a.len() < w {
-        return &a[0..0];
-    }
-    &a[0..w]
 }

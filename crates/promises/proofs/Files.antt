@@ -47,7 +47,7 @@ module _ (s : List ℕ) (lent out : List ℤ) (a : Answer) (reads : Reads s lent
       → (isFileRefusal (r .number) ≡ true) × (r .index ≤ length s) × (out ≡ lent)
   read-refused r e =
       let told = fileOf-told s (length lent) (reads-refused s lent out reads e) in
-      (told .number, told .place, reads-untouched s lent out reads e)
+      (told .number, told .place .within, reads-untouched s lent out reads e)
 
   pub read-ends : (readRefusal a ≡ noRefusal) ⊎ ((isFileRefusal (readRefusal a .number) ≡ true) × (out ≡ lent))
   read-ends = go a refl

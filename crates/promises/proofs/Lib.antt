@@ -7,3 +7,4 @@ pub mod Examples
 pub mod Slips
 pub mod Gauges
 pub mod Files
+pub mod Boundary

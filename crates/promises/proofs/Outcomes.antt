@@ -6,10 +6,11 @@
 --     same-read         the answer and the lent array, for every file and array
 --     same-take-number, same-signed-of    one number of a file
 --     same-corner, same-run-at, same-smaller-head               the part: its numbers, the array it lies in, its place
+--     same-corner-of, same-run-of, same-head-of                 where it lies, and which array holds it
+-- The functions of the boundary: Boundary.antt.
 -- Assumes nothing.
 use mathlib.Core.Path.{_≡_, sym, _∙_}
 use mathlib.Core.List.{List}
-use Prim.Native.Nat.{ℕ}
 use denote.Ref.{RefT, now}
 use lib.IntN.{ℤ}
 use contract.Lifetimes.{Lfts}
@@ -21,6 +22,8 @@ use Rattle.question.specs.declared.Nearest.{Nearest}
 use Rattle.area.specs.declared.Area.{Area}
 use Rattle.gauge.specs.declared.Gauged.{Gauged}
 use Rattle.gauge.proofs.ReadingLaws.{gauges-one}
+use Rattle.parts.specs.declared.Span.{Span}
+use Rattle.parts.specs.declared.Head.{Head}
 use Rattle.parts.specs.Parts.{Part}
 use Rattle.chart.proofs.check.Kinds as check-kinds
 use Rattle.chart.proofs.check.Reads as check
@@ -48,6 +51,12 @@ use Rattle.parts.proofs.run_at.Kinds as run-at-kinds
 use Rattle.parts.proofs.run_at.Reads as run-at
 use Rattle.parts.proofs.smaller_head.Kinds as smaller-head-kinds
 use Rattle.parts.proofs.smaller_head.Reads as smaller-head
+use Rattle.question.proofs.corner_of.Kinds as corner-of-kinds
+use Rattle.question.proofs.corner_of.Reads as corner-of
+use Rattle.parts.proofs.run_of.Kinds as run-of-kinds
+use Rattle.parts.proofs.run_of.Reads as run-of
+use Rattle.parts.proofs.head_of.Kinds as head-of-kinds
+use Rattle.parts.proofs.head_of.Reads as head-of
 use Rattle.promises.proofs.Settled.{Settled, SamePart, SettledPart, SettledLent}
 
 -- ---- chart
@@ -84,7 +93,7 @@ same-read-sample κs a v w s t h k = gauges-one h k
 
 -- ---- file
 
-pub same-read : SettledLent 2 read-kinds.ps read-kinds.r Answer (λ κs s. now (s .1 .0)) read.Post
+pub same-read : SettledLent 2 read-kinds.ps read-kinds.r Answer (List ℤ) (λ κs s. now (s .1 .0)) read.Post
 same-read κs a v w s t h k = (h .says ∙ sym (k .says), h .leaves ∙ sym (k .leaves))
 
 pub same-take-number : Settled 1 take-number-kinds.ps take-number-kinds.r Number take-number.Post
@@ -95,8 +104,17 @@ same-signed-of κs a v w s t h k = h ∙ sym k
 
 -- ---- parts of an array
 
-same-part : {s : RefT (List ℤ)} {a e : ℕ} (p q : RefT (List ℤ)) → Part s a e p → Part s a e q → SamePart p q
+same-part : {s : RefT (List ℤ)} {a : Span} (p q : RefT (List ℤ)) → Part s a p → Part s a q → SamePart p q
 same-part p q h k = (h .numbers ∙ sym (k .numbers), h .array ∙ sym (k .array), h .place ∙ sym (k .place))
+
+pub same-corner-of : Settled 1 corner-of-kinds.ps corner-of-kinds.r Span corner-of.Post
+same-corner-of κs a v w s t h k = h ∙ sym k
+
+pub same-run-of : Settled 1 run-of-kinds.ps run-of-kinds.r Span run-of.Post
+same-run-of κs a v w s t h k = h ∙ sym k
+
+pub same-head-of : Settled 2 head-of-kinds.ps head-of-kinds.r Head head-of.Post
+same-head-of κs a v w s t h k = h ∙ sym k
 
 pub same-corner : SettledPart 1 corner-kinds.ps corner-kinds.r corner.Post
 same-corner κs a p q s t h k = same-part p q h k

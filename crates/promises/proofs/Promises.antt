@@ -27,10 +27,10 @@ use Rattle.counts.specs.Count.{_∈_, odd}
 use Rattle.counts.proofs.ListedLaws.{mem-listed}
 use Rattle.plane.specs.declared.Point.{Point}
 use Rattle.record.specs.Records.{width, recordAt, recordCount, records, marked}
-use Rattle.parts.specs.Parts.{Part, atCorner, runStart, runEnd, Run}
+use Rattle.parts.specs.Parts.{Part, atCorner, runOf, Run}
 use Rattle.parts.proofs.RunLaws.{run-only, run-all}
 use Rattle.chart.specs.declared.Verdict.the-variants.{Accepted}
-use Rattle.chart.specs.Verdicts.{verdict, isAccepted}
+use Rattle.chart.specs.Verdicts.{verdict}
 use Rattle.chart.specs.Regions.{Region}
 use Rattle.chart.proofs.RegionLaws.{accepted-is}
 use Rattle.chart.proofs.OnceLaws.{region-place}
@@ -43,6 +43,7 @@ use Rattle.question.specs.declared.Nearest.the-variants.{Nothing, At}
 use Rattle.question.specs.Places.{byCount, placeOf, placeIf, placed}
 use Rattle.question.specs.Nearests.{nearestOf, nearestIf, nearestBelow, byMark}
 use Rattle.question.specs.Corners.{Corner}
+use Rattle.question.proofs.CornerLaws.{cornerOf-accepted}
 use Rattle.question.proofs.ByMarkLaws.{byMark-byCount}
 
 -- ---- demand 2
@@ -104,13 +105,9 @@ nearest-single s p g i j l h m n = region-place g i j l h (nearest-one (g .sound
 
 -- ---- the corner run
 
--- the part that the contract names, by whether the chart is accepted
-abbrev RunIf : RefT (List ℤ) → Point → RefT (List ℤ) → Bool → Type 0
-RunIf s p r b = Part s (cond b (runStart (s .now) p) 0) (cond b (runEnd (s .now) p) 0) r
-
 pub corner-run : (s : RefT (List ℤ)) (p : Point) (r : RefT (List ℤ)) → Region (s .now) → Corner s p r → Run s p r
-corner-run s p r g h = subst (RunIf s p r) (ap isAccepted (accepted-is (s .now) .1 g)) h
+corner-run s p r g h = subst (λ a. Part s a r) (cornerOf-accepted (s .now) p (accepted-is (s .now) .1 g)) h
 
 pub corner-records : (s : List ℤ) (p : Point) (i : ℕ) → Region s → i < recordCount s
-    → (atCorner p (recordAt s i) ≡ true) ↔ ((runStart s p ≤ width * i) × (width * i < runEnd s p))
+    → (atCorner p (recordAt s i) ≡ true) ↔ ((runOf s p .from ≤ width * i) × (width * i < runOf s p .upto))
 corner-records s p i g l = ((λ e. run-all s p (g .ordered) i l e), (λ h. run-only s p i (h .0) (h .1)))

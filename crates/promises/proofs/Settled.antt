@@ -4,7 +4,7 @@
 --                              exit
 --     SamePart p q             p and q are one part: its numbers, the array it lies in, and its place
 --     SettledPart n ps r Post  any two outcomes are one part
---     SettledLent n ps r A lent Post   any two outcomes coincide, and so does what the lent array then holds
+--     SettledLent n ps r A B lent Post   any two outcomes coincide, and so does what is then lent back, a B
 -- Assumes nothing.
 use mathlib.Core.Path.{_≡_}
 use mathlib.Core.List.{List}
@@ -29,9 +29,9 @@ SettledPart n ps r Post =
     (κs : Lfts n) (a : Dens κs ps) (p q : RefT (List ℤ)) (s t : AtExit (endedOf n ps r) κs)
     → Post κs a p s → Post κs a q t → SamePart p q
 
-abbrev pub SettledLent : (n : ℕ) (ps : List (PK n)) (r : RK n) (A : Type 0)
-    → ((κs : Lfts n) → AtExit (endedOf n ps r) κs → List ℤ)
+abbrev pub SettledLent : (n : ℕ) (ps : List (PK n)) (r : RK n) (A B : Type 0)
+    → ((κs : Lfts n) → AtExit (endedOf n ps r) κs → B)
     → ((κs : Lfts n) → Dens κs ps → A → AtExit (endedOf n ps r) κs → Type 0) → Type 0
-SettledLent n ps r A lent Post =
+SettledLent n ps r A B lent Post =
     (κs : Lfts n) (a : Dens κs ps) (v w : A) (s t : AtExit (endedOf n ps r) κs)
     → Post κs a v s → Post κs a w t → (v ≡ w) × (lent κs s ≡ lent κs t)

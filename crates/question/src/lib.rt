@@ -13,10 +13,11 @@ ghost use Rattle.chart.specs.Regions.{Sound};
 ghost use Rattle.region.specs.Boundaries.{counted, below, higherBelow, nearest};
 ghost use Rattle.question.specs.Places.{placeOf, placed};
 ghost use Rattle.question.specs.Nearests.{nearestOf, nearestBelow};
-ghost use Rattle.question.specs.Corners.{Corner};
+ghost use Rattle.question.specs.Corners.{cornerOf, Corner};
 use chart::Refusal;
 use chart::Verdict;
 use chart::check;
+use parts::Span;
 use plane::Point;
 use plane::Segment;
 use record::MARKED;
@@ -212,15 +213,24 @@ pub fn inside_by_mark(chart: &[i16], x: i16, y: i16) -> Place
 
 // ---- the run at a corner
 
-// The run of records whose dominating end is the point, as that very part of the chart; empty where there is none or
-// the chart is refused.
-pub fn corner(chart: &[i16], x: i16, y: i16) -> &[i16]
-    ensures { λ r. ⌜ Corner (chart .entry) (pointOf x y) r ⌝ }
+// Where the run of records whose dominating end is the point lies; empty where there is none or the chart is refused.
+pub fn corner_of(chart: &[i16], x: i16, y: i16) -> Span
+    ensures { λ r. ⌜ r ≡ cornerOf (now (chart .entry)) (pointOf x y) ⌝ }
 {
     let p = grid::point_of(x, y);
     let v = check(chart);
     match v {
-        Verdict::Accepted => parts::run_at(chart, p),
-        Verdict::Refused(_) => &chart[0..0],
+        Verdict::Accepted => parts::run_of(chart, p),
+        Verdict::Refused(_) => Span { from: 0, upto: 0 },
     }
+}
+
+// That run, as that very part of the chart.
+pub fn corner(chart: &[i16], x: i16, y: i16) -> &[i16]
+    ensures { λ r. ⌜ Corner (chart .entry) (pointOf x y) r ⌝ }
+{
+    let run = corner_of(chart, x, y);
+    let from = run.from;
+    let upto = run.upto;
+    &chart[from..upto]
 }

@@ -1,0 +1,121 @@
+-- What the functions for C and Rust promise (crate rig).
+--     check-answer, point-answer, area-answer    the number of 64 bits has the chart's refusal, 0 and 0 where it is
+--                       answered, and the place's kind
+--     corner-answer     it has where the run starts and how long it is
+--     head-answer       it has which array holds the smaller head
+--     read-answer       it has how many records were read, or the file's refusal and its place
+--     gauge-answer      it has the sample's refusal, and nothing else
+--     gauge-spring, gauge-bridge, gauge-other    what is read is what the card of that kind gives; 21 for any other
+--     same-bz-check, ..  any two outcomes of one call coincide, and so does what is lent back
+-- Assumes nothing.
+use mathlib.Core.Path.{_≡_, sym, _∙_}
+use mathlib.Core.List.{List}
+use Prim.Native.Nat.{ℕ, _-_, _<_}
+use native.Mathlib.Omega.{arith}
+use denote.Ref.{now}
+use lib.IntN.{ℤ}
+use lib.Ieee.{Float}
+use lib.ListN.{length}
+use Rattle.plane.specs.declared.Point.{Point}
+use Rattle.parts.specs.declared.Head.{Head}
+use Rattle.chart.specs.Verdicts.{refusalOf, verdict}
+use Rattle.question.specs.Places.{placed}
+use Rattle.question.specs.Corners.{cornerOf}
+use Rattle.area.specs.Areas.{areaOf}
+use Rattle.gauge.specs.declared.Card.the-variants.{Spring, Bridge}
+use Rattle.gauge.specs.declared.Gauged.{Gauged}
+use Rattle.gauge.specs.Readings.{refusedBy, Gauges}
+use Rattle.file.specs.Files.{fileOf}
+use Rattle.file.specs.Answers.{answerOf, readRefusal}
+use Rattle.rig.specs.Bits.{valueOf, numberOf, lengthOf}
+use Rattle.rig.specs.Answers.{checkAnswer, placeKind, pointAnswer, cornerAnswer, headKind, headAnswer, areaAnswer}
+use Rattle.rig.specs.Answers.{readValue, readAnswer}
+use Rattle.rig.specs.Gauging.{SampleRead}
+use Rattle.rig.proofs.BitLaws.{Decoded, packed-decoded}
+use Rattle.rig.proofs.DecodeLaws.{check-decoded, point-decoded, area-decoded, corner-decoded, read-decoded}
+use Rattle.rig.proofs.DecodeLaws.{sample-decoded}
+use Rattle.rig.proofs.GaugingLaws.{by-spring, by-bridge, by-neither, sample-one}
+use Rattle.rig.proofs.bz_check.Kinds as bz-check-kinds
+use Rattle.rig.proofs.bz_check.Reads as bz-check
+use Rattle.rig.proofs.bz_point.Kinds as bz-point-kinds
+use Rattle.rig.proofs.bz_point.Reads as bz-point
+use Rattle.rig.proofs.bz_corner.Kinds as bz-corner-kinds
+use Rattle.rig.proofs.bz_corner.Reads as bz-corner
+use Rattle.rig.proofs.bz_head.Kinds as bz-head-kinds
+use Rattle.rig.proofs.bz_head.Reads as bz-head
+use Rattle.rig.proofs.bz_area2.Kinds as bz-area2-kinds
+use Rattle.rig.proofs.bz_area2.Reads as bz-area2
+use Rattle.rig.proofs.bz_gauge.Kinds as bz-gauge-kinds
+use Rattle.rig.proofs.bz_gauge.Reads as bz-gauge
+use Rattle.rig.proofs.bz_read.Kinds as bz-read-kinds
+use Rattle.rig.proofs.bz_read.Reads as bz-read
+use Rattle.promises.proofs.Settled.{Settled, SettledLent}
+
+-- ---- what an answer has
+
+module _ (s : List ℤ) where
+  pub check-answer : let r = refusalOf (verdict s) in Decoded (checkAnswer (verdict s)) (r .index) (r .number) 0 0
+  check-answer = check-decoded s
+
+  pub area-answer : let r = refusalOf (verdict s) in Decoded (areaAnswer (areaOf s)) (r .index) (r .number) 0 0
+  area-answer = area-decoded s
+
+  module _ (p : Point) where
+    pub point-answer : let r = refusalOf (verdict s) in
+        Decoded (pointAnswer (placed s p)) (r .index) (r .number) 0 (placeKind (placed s p))
+    point-answer = point-decoded s p
+
+    pub corner-answer : let a = cornerAnswer (cornerOf s p) in
+        (valueOf a ≡ cornerOf s p .from) × (lengthOf a ≡ cornerOf s p .upto - cornerOf s p .from)
+    corner-answer = corner-decoded s p
+
+pub head-answer : (h : Head) → Decoded (headAnswer h) 0 0 0 (headKind h)
+head-answer h = packed-decoded 0 0 0 (headKind h) (omega arith) (omega arith) (omega arith)
+
+pub read-answer : (s : List ℕ) (lent : List ℤ) → let a = answerOf (fileOf s (length lent)) in
+    Decoded (readAnswer a) (readValue a) (readRefusal a .number) 0 0
+read-answer s lent = read-decoded s lent
+
+-- ---- samples
+
+module _ (x y : Float) (n : ℤ) (r : ℕ) (p : Float) (m : ℤ) where
+  -- what is handed back
+  abbrev handed : Gauged
+  handed = record { refusal = numberOf r; reading = record { pressure = p; row = m } }
+
+  pub gauge-answer : (k : ℕ) → SampleRead k x y n r p m → Decoded r 0 (numberOf r) 0 0
+  gauge-answer k h = sample-decoded k x y n r p m h
+
+  pub gauge-spring : SampleRead 0 x y n r p m → Gauges (Spring x y) n handed
+  gauge-spring h = by-spring x y n (h .reads)
+
+  pub gauge-bridge : SampleRead 1 x y n r p m → Gauges (Bridge x y) n handed
+  gauge-bridge h = by-bridge x y n (h .reads)
+
+  pub gauge-other : (k : ℕ) → 1 < k → SampleRead k x y n r p m → handed ≡ refusedBy 21
+  gauge-other k l h = by-neither k x y n l (h .reads)
+
+-- ---- one outcome
+
+pub same-bz-check : Settled 1 bz-check-kinds.ps bz-check-kinds.r ℕ bz-check.Post
+same-bz-check κs a v w s t h k = h ∙ sym k
+
+pub same-bz-point : Settled 1 bz-point-kinds.ps bz-point-kinds.r ℕ bz-point.Post
+same-bz-point κs a v w s t h k = h ∙ sym k
+
+pub same-bz-corner : Settled 1 bz-corner-kinds.ps bz-corner-kinds.r ℕ bz-corner.Post
+same-bz-corner κs a v w s t h k = h ∙ sym k
+
+pub same-bz-head : Settled 2 bz-head-kinds.ps bz-head-kinds.r ℕ bz-head.Post
+same-bz-head κs a v w s t h k = h ∙ sym k
+
+pub same-bz-area2 : SettledLent 2 bz-area2-kinds.ps bz-area2-kinds.r ℕ ℤ (λ κs s. now (s .1 .0)) bz-area2.Post
+same-bz-area2 κs a v w s t h k = (h .0 ∙ sym (k .0), h .1 ∙ sym (k .1))
+
+-- the pressure and the row
+pub same-bz-gauge : SettledLent 2 bz-gauge-kinds.ps bz-gauge-kinds.r ℕ (Float × ℤ)
+    (λ κs s. (now (s .1 .1 .1 .1 .0), now (s .1 .1 .1 .1 .1 .0))) bz-gauge.Post
+same-bz-gauge κs a v w s t h k = sample-one h k
+
+pub same-bz-read : SettledLent 2 bz-read-kinds.ps bz-read-kinds.r ℕ (List ℤ) (λ κs s. now (s .1 .0)) bz-read.Post
+same-bz-read κs a v w s t h k = (h .says ∙ sym (k .says), h .leaves ∙ sym (k .leaves))

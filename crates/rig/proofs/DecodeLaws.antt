@@ -1,0 +1,89 @@
+-- What a caller reads from an answer is what the library answers.
+--     check-decoded, point-decoded, area-decoded    the chart's refusal, number and index; and the kind of place
+--     corner-decoded                                where the run starts, and how many numbers it has
+--     read-decoded                                  how many records were read, or a file's refusal and its place
+--     sample-decoded                                a sample's refusal, and no other bit
+-- Assumes nothing.
+use mathlib.Core.Path.{_≡_, refl, sym, ap, subst}
+use mathlib.Core.List.{List}
+use Prim.Native.Nat.{ℕ, _-_}
+use native.Mathlib.Omega.{arith}
+use lib.IntN.{ℤ}
+use lib.Ieee.{Float}
+use lib.ListN.{length}
+use Rattle.plane.specs.declared.Point.{Point}
+use Rattle.chart.specs.declared.Refusal.{Refusal}
+use Rattle.chart.specs.Verdicts.{refusalOf, verdict}
+use Rattle.chart.proofs.IndexLaws.{verdict-told}
+use Rattle.question.specs.Places.{placed}
+use Rattle.question.specs.Corners.{cornerOf}
+use Rattle.question.proofs.RefusalLaws.{placed-refusal}
+use Rattle.area.specs.Areas.{areaOf}
+use Rattle.area.proofs.AreaLaws.{areaOf-refusal}
+use Rattle.file.specs.Files.{Taken, taken, refused, fileOf}
+use Rattle.file.specs.Answers.{answerOf, readRefusal, contents, Reads}
+use Rattle.file.proofs.RefusalLaws.{fileOf-told, numbers}
+use Rattle.rig.specs.Bits.{packed, valueOf, numberOf, lengthOf}
+use Rattle.rig.specs.Answers.{checkAnswer, placeKind, pointAnswer, cornerAnswer, areaAnswer}
+use Rattle.rig.specs.Answers.{readValue, readAnswer}
+use Rattle.rig.specs.Gauging.{SampleRead}
+use Rattle.rig.proofs.BitLaws.{Decoded, packed-decoded}
+use Rattle.rig.proofs.AnswerLaws.{corner-small, records-small, place-small}
+
+-- ---- of a chart
+
+module _ (s : List ℤ) where
+  abbrev given : Refusal
+  given = refusalOf (verdict s)
+
+  -- an answer of the chart's refusal, with any kind
+  refusal-decoded : (k : ℕ) {r : Refusal} → r ≡ given
+      → Decoded (packed (r .index) (r .number) 0 k) (given .index) (given .number) 0 k
+  refusal-decoded k e =
+      let told = verdict-told s in
+      rw e (packed-decoded (given .index) (given .number) 0 k (omega (arith, told .index))
+      (omega (arith, told .number)) (omega arith))
+
+  pub check-decoded : Decoded (checkAnswer (verdict s)) (given .index) (given .number) 0 0
+  check-decoded = refusal-decoded 0 refl
+
+  pub area-decoded : Decoded (areaAnswer (areaOf s)) (given .index) (given .number) 0 0
+  area-decoded = refusal-decoded 0 (areaOf-refusal s)
+
+  module _ (p : Point) where
+    pub point-decoded : Decoded (pointAnswer (placed s p)) (given .index) (given .number) 0 (placeKind (placed s p))
+    point-decoded = refusal-decoded (placeKind (placed s p)) (placed-refusal s p)
+
+    pub corner-decoded : (valueOf (cornerAnswer (cornerOf s p)) ≡ cornerOf s p .from)
+        × (lengthOf (cornerAnswer (cornerOf s p)) ≡ cornerOf s p .upto - cornerOf s p .from)
+    unfolding cornerAnswer valueOf lengthOf
+    corner-decoded =
+        let w = corner-small s p refl in
+        (omega (arith, w .0, w .1), omega (arith, w .0, w .1))
+
+-- ---- of a file
+
+module _ (s : List ℕ) (lent : List ℤ) where
+  pub read-decoded : let a = answerOf (fileOf s (length lent)) in
+      Decoded (readAnswer a) (readValue a) (readRefusal a .number) 0 0
+  read-decoded = go (fileOf s (length lent)) refl
+    where
+      reads : Reads s lent (contents (fileOf s (length lent)) lent) (answerOf (fileOf s (length lent)))
+      reads = record { says = refl; leaves = refl }
+
+      go : (t : Taken) → fileOf s (length lent) ≡ t → Decoded (readAnswer (answerOf t)) (readValue (answerOf t))
+          (readRefusal (answerOf t) .number) 0 0
+      go (taken zs end) e =
+          packed-decoded _ 0 0 0 (records-small s lent _ reads (ap answerOf e)) (omega arith) (omega arith)
+      go (refused r) e =
+          packed-decoded (r .index) (r .number) 0 0 (place-small s lent _ reads (ap answerOf e))
+          (omega (arith, numbers (r .number) (fileOf-told s (length lent) e .number))) (omega arith)
+
+-- ---- of a sample
+
+module _ (k : ℕ) (x y : Float) (n : ℤ) (r : ℕ) (p : Float) (m : ℤ) where
+  pub sample-decoded : SampleRead k x y n r p m → Decoded r 0 (numberOf r) 0 0
+  unfolding numberOf
+  sample-decoded h =
+      subst (λ a. Decoded a 0 (numberOf r) 0 0) (sym (h .says))
+      (packed-decoded 0 (numberOf r) 0 0 (omega arith) (omega arith) (omega arith))

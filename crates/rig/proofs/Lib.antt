@@ -1,0 +1,4 @@
+pub mod BitLaws
+pub mod AnswerLaws
+pub mod GaugingLaws
+pub mod DecodeLaws

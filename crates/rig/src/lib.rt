@@ -1,0 +1,173 @@
+// The boundary for C and Rust (include/berzulka.h, rust/): each question of the controller's under a plain name. Each
+// asks the proved function of its crate and packs what that answers into one number. Callers check nothing.
+// A slice is passed as a pointer and a length, in elements.
+ghost use mathlib.Core.Path.{_≡_};
+ghost use Prim.Native.Nat.{_+_, _*_, _^_, _<_};
+ghost use Rattle.grid.specs.Coordinates.{pointOf};
+ghost use Rattle.parts.specs.Parts.{headOf};
+ghost use Rattle.chart.specs.Verdicts.{verdict};
+ghost use Rattle.question.specs.Places.{placed, placeRefusal};
+ghost use Rattle.question.specs.Corners.{cornerOf};
+ghost use Rattle.area.specs.Areas.{areaOf};
+ghost use Rattle.rig.specs.Bits.{packed, ofRefusal};
+ghost use Rattle.rig.specs.Answers.{checkAnswer, pointAnswer, cornerAnswer, headAnswer, areaAnswer, areaLeft};
+ghost use Rattle.rig.specs.Answers.{FileRead};
+ghost use Rattle.rig.specs.Gauging.{KindGauges, SampleRead};
+use area::Area;
+use chart::Refusal;
+use chart::Verdict;
+use file::Answer;
+use gauge::Card;
+use gauge::Gauged;
+use gauge::Reading;
+use parts::Head;
+use question::Place;
+
+// ---- an answer's bits
+
+// Bits 0 to 31 a value, index or place; 32 to 47 a refusal's number; 48 to 55 the chart named; 56 to 63 a kind.
+fn pack(value: usize, number: u16, chart: u8, kind: u8) -> u64
+    requires { ⌜ value < 2 ^ 32 ⌝ }
+    ensures { λ r. ⌜ r ≡ packed value number chart kind ⌝ }
+{
+    value as u64 + 4294967296 * (number as u64 + 65536 * (chart as u64 + 256 * (kind as u64)))
+}
+
+// A refusal that names no chart.
+fn pack_refusal(r: Refusal) -> u64
+    requires { ⌜ r .index < 2 ^ 32 ⌝ }
+    ensures { λ n. ⌜ n ≡ ofRefusal r ⌝ }
+{
+    pack(r.index, r.number, 0, 0)
+}
+
+fn pack_place(a: Place) -> u64
+    requires { ⌜ placeRefusal a .index < 2 ^ 32 ⌝ }
+    ensures { λ n. ⌜ n ≡ pointAnswer a ⌝ }
+{
+    match a {
+        Place::Outside => pack(0, 0, 0, 0),
+        Place::Inside => pack(0, 0, 0, 1),
+        Place::Edge => pack(0, 0, 0, 2),
+        Place::Refused(r) => pack_refusal(r),
+    }
+}
+
+// ---- questions about a chart
+
+#[no_mangle]
+pub extern "C" fn bz_check(chart: &[i16]) -> u64
+    ensures { λ r. ⌜ r ≡ checkAnswer (verdict (now (chart .entry))) ⌝ }
+{
+    let v = chart::check(chart);
+    match v {
+        Verdict::Accepted => pack(0, 0, 0, 0),
+        Verdict::Refused(r) => pack_refusal(r),
+    }
+}
+
+#[no_mangle]
+pub extern "C" fn bz_point(chart: &[i16], x: i16, y: i16) -> u64
+    ensures { λ r. ⌜ r ≡ pointAnswer (placed (now (chart .entry)) (pointOf x y)) ⌝ }
+{
+    pack_place(question::point(chart, x, y))
+}
+
+#[no_mangle]
+pub extern "C" fn bz_corner(chart: &[i16], x: i16, y: i16) -> u64
+    ensures { λ r. ⌜ r ≡ cornerAnswer (cornerOf (now (chart .entry)) (pointOf x y)) ⌝ }
+{
+    let run = question::corner_of(chart, x, y);
+    let from = run.from as u64;
+    let length = (run.upto - run.from) as u64;
+    from + 4294967296 * length
+}
+
+#[no_mangle]
+pub extern "C" fn bz_head(a: &[i16], b: &[i16]) -> u64
+    ensures { λ r. ⌜ r ≡ headAnswer (headOf (now (a .entry)) (now (b .entry))) ⌝ }
+{
+    let h = parts::head_of(a, b);
+    match h {
+        Head::Neither => pack(0, 0, 0, 0),
+        Head::First => pack(0, 0, 0, 1),
+        Head::Second => pack(0, 0, 0, 2),
+    }
+}
+
+#[no_mangle]
+pub extern "C" fn bz_area2(chart: &[i16], out: &mut i64) -> u64
+    ensures { λ r. ⌜ r ≡ areaAnswer (areaOf (now (chart .entry))) ⌝ }
+    ensures { λ _. ⌜ now (out .exit) ≡ areaLeft (areaOf (now (chart .entry))) (now (out .entry)) ⌝ }
+{
+    let a = area::area2(chart);
+    match a {
+        Area::Twice(z) => {
+            *out = z;
+            pack(0, 0, 0, 0)
+        }
+        Area::Refused(r) => pack_refusal(r),
+    }
+}
+
+// ---- gauges
+
+// What the card of a kind gives: 0 is a spring, of a rate and a pin, and 1 a bridge, of a gain and a zero.
+fn gauged(kind: u8, first: f64, second: f64, sample: i16) -> Gauged
+    ensures { λ g. ⌜ KindGauges kind first second sample g ⌝ }
+{
+    if kind == 0 {
+        let spring = Card::Spring {
+            rate: first,
+            pin: second,
+        };
+        return gauge::read_sample(spring, sample);
+    }
+    if kind == 1 {
+        let bridge = Card::Bridge {
+            gain: first,
+            zero: second,
+        };
+        return gauge::read_sample(bridge, sample);
+    }
+    let reading = Reading {
+        pressure: 0.0,
+        row: 0,
+    };
+    Gauged {
+        refusal: 21,
+        reading,
+    }
+}
+
+#[no_mangle]
+pub extern "C" fn bz_gauge(
+    kind: u8,
+    first: f64,
+    second: f64,
+    sample: i16,
+    pressure: &mut f64,
+    row: &mut i16,
+) -> u64
+    ensures { λ r. ⌜ SampleRead kind first second sample r (now (pressure .exit)) (now (row .exit)) ⌝ }
+{
+    let g = gauged(kind, first, second, sample);
+    let p = g.reading.pressure;
+    let m = g.reading.row;
+    *pressure = p;
+    *row = m;
+    pack(0, g.refusal, 0, 0)
+}
+
+// ---- files
+
+#[no_mangle]
+pub extern "C" fn bz_read(bytes: &[u8], out: &mut [i16]) -> u64
+    ensures { λ r. ⌜ FileRead (now (bytes .entry)) (now (out .entry)) (now (out .exit)) r ⌝ }
+{
+    let a = file::read(bytes, out);
+    match a {
+        Answer::Records(n) => pack(n, 0, 0, 0),
+        Answer::Refused(r) => pack_refusal(r),
+    }
+}
