@@ -1,0 +1,119 @@
+// A small job of the rig controller in C: a chart file is read and checked, points are asked about, a gauge's sample is
+// turned into a row, and a refusal of each sort is met. rust/examples/rig.rs does the same job and prints the same.
+// From the top of the repository:
+//
+//     rt staticlib rig
+//     gcc -I include -o target/rig examples/rig.c target/staticlib/librig.a
+//     target/rig examples/square.chart
+#include "berzulka.h"
+
+#include <stdio.h>
+
+// The longest file that can be taken has 6,658 bytes, so what lies past this buffer changes no answer.
+static uint8_t file[8192];
+
+static int16_t chart[BZ_LIMIT * BZ_WIDTH];
+
+// Tells a refusal, where the answer is one.
+static int is_refused(const char *what, uint64_t answer)
+{
+    unsigned number = bz_refusal(answer);
+    if (number != 0)
+        printf("%s: refused %u at %u: %s\n", what, number, bz_value(answer), bz_meaning(number));
+    return number != 0;
+}
+
+static void say_records(const char *what, const int16_t *records, size_t length)
+{
+    printf("%s, %zu records\n", what, length / BZ_WIDTH);
+    for (const int16_t *r = records; r < records + length; r += BZ_WIDTH)
+        printf("    (%d,%d) to (%d,%d), mark %d\n", r[0], r[1], r[2], r[3], r[4]);
+}
+
+static void say_place(size_t length, int16_t x, int16_t y)
+{
+    static const char *const places[] = {"Outside", "Inside", "Edge"};
+    uint64_t answer = bz_point(chart, length, x, y);
+    if (!is_refused("the point", answer))
+        printf("(%d,%d): %s\n", x, y, places[bz_kind(answer)]);
+}
+
+// Goes through the records of the chart and of a second array in record order, by the smaller head of what is left.
+static void say_merged(size_t length)
+{
+    static const int16_t other[] = {1, 0, 3, 0, 1, 9, 9, 1, 1, 0};
+    size_t other_length = sizeof other / sizeof other[0], a = 0, b = 0;
+    printf("merged with a second array:");
+    for (;;) {
+        unsigned kind = bz_kind(bz_head(chart + a, length - a, other + b, other_length - b));
+        if (kind == BZ_NEITHER)
+            break;
+        printf(kind == BZ_FIRST ? " first" : " second");
+        if (kind == BZ_FIRST)
+            a += BZ_WIDTH;
+        else
+            b += BZ_WIDTH;
+    }
+    printf("\n");
+}
+
+// The row that a bridge's sample gives, and where the point of that row at time 3 lies.
+static void say_sample(size_t length, int16_t sample)
+{
+    double pressure;
+    int16_t row;
+    if (is_refused("the sample", bz_gauge(BZ_BRIDGE, 0.5, 0.0, sample, &pressure, &row)))
+        return;
+    printf("sample %d: pressure %g, row %d\n", sample, pressure, row);
+    say_place(length, 3, row);
+}
+
+static void say_refusals(size_t size, size_t length)
+{
+    double pressure;
+    int16_t row;
+    is_refused("the file without its last byte", bz_read(file, size - 1, chart, BZ_LIMIT * BZ_WIDTH));
+    chart[length - 1] = (int16_t)(1 - chart[length - 1]);
+    is_refused("the chart with its last mark changed", bz_check(chart, length));
+    is_refused("a card with a gain of 3", bz_gauge(BZ_BRIDGE, 3.0, 0.0, 5, &pressure, &row));
+}
+
+// What is asked of a chart that was accepted and has records.
+static void say_answers(size_t length)
+{
+    int64_t area;
+    if (!is_refused("the area", bz_area2(chart, length, &area)))
+        printf("twice the area: %lld\n", (long long)area);
+    say_place(length, 2, 2);
+    say_place(length, 4, 2);
+    say_place(length, 5, 2);
+    // the run is a part of the chart's own array: nothing is copied
+    uint64_t run = bz_corner(chart, length, chart[length - 5], chart[length - 4]);
+    say_records("at the last corner", chart + bz_run_start(run), bz_run_length(run));
+    say_merged(length);
+    say_sample(length, 5);
+}
+
+int main(int count, char **words)
+{
+    FILE *input = fopen(count > 1 ? words[1] : "examples/square.chart", "rb");
+    if (input == NULL) {
+        perror("rig");
+        return 2;
+    }
+    size_t size = fread(file, 1, sizeof file, input);
+    fclose(input);
+
+    uint64_t answer = bz_read(file, size, chart, BZ_LIMIT * BZ_WIDTH);
+    if (is_refused("the file", answer))
+        return 1;
+    size_t length = bz_value(answer) * BZ_WIDTH;
+    if (is_refused("the chart", bz_check(chart, length)))
+        return 1;
+    say_records("a sound chart", chart, length);
+    if (length == 0)
+        return 0;
+    say_answers(length);
+    say_refusals(size, length);
+    return 0;
+}

@@ -1,0 +1,74 @@
+//! Questions put to the raw functions. The whole word that they answer is looked at, unnamed bits too.
+
+use super::answer::Answer;
+use super::framed::Framed;
+use super::lent::{numbers, Lent, AREA, READING};
+use super::question::Question;
+use crate::rules::gauges::Card;
+use berzulka::raw::*;
+
+pub struct Outcome {
+    word: u64,
+    lent: Lent,
+    /// what was handed over, and what stands beside it and beside what was lent, is as it was
+    is_kept: bool,
+}
+
+impl Outcome {
+    pub fn disagreement(&self, wanted: &Answer, after: &Lent) -> Option<String> {
+        let word = wanted.word();
+        if self.word != word {
+            return Some(format!("the raw function answers {:#018x} and not {word:#018x}", self.word));
+        }
+        if self.lent != *after {
+            return Some(format!("the raw function leaves {:?} and not {after:?}", self.lent));
+        }
+        (!self.is_kept).then(|| "the raw function writes where it must not".to_string())
+    }
+}
+
+/// A question about a chart, which the function gets by its start and its length.
+fn about(chart: &[i16], function: impl FnOnce(*const i16, usize) -> u64) -> Outcome {
+    let mut framed = Framed::new(chart);
+    let word = function(framed.start(), chart.len());
+    Outcome { word, lent: Lent::Nothing, is_kept: framed.is_as(chart) }
+}
+
+fn area(chart: &[i16]) -> Outcome {
+    let mut area = AREA;
+    let outcome = about(chart, |start, length| unsafe { bz_area2(start, length, &mut area) });
+    Outcome { lent: Lent::Area(area), ..outcome }
+}
+
+fn head(a: &[i16], b: &[i16]) -> Outcome {
+    let (mut first, mut second) = (Framed::new(a), Framed::new(b));
+    let word = unsafe { bz_head(first.start(), a.len(), second.start(), b.len()) };
+    Outcome { word, lent: Lent::Nothing, is_kept: first.is_as(a) && second.is_as(b) }
+}
+
+fn gauge(card: Card, sample: i16) -> Outcome {
+    let mut reading = READING;
+    let [first, second] = [card.first, card.second].map(f64::from_bits);
+    // lent as its bits, whatever float they are
+    let pressure: *mut u64 = &mut reading.pressure;
+    let word = unsafe { bz_gauge(card.kind, first, second, sample, pressure.cast(), &mut reading.row) };
+    Outcome { word, lent: Lent::Reading(reading), is_kept: true }
+}
+
+fn read(file: &[u8], room: usize) -> Outcome {
+    let (mut bytes, mut out) = (Framed::new(file), Framed::new(&numbers(room)));
+    let word = unsafe { bz_read(bytes.start(), file.len(), out.array_mut().as_mut_ptr(), room) };
+    Outcome { word, lent: Lent::Numbers(out.array().to_vec()), is_kept: bytes.is_as(file) && out.has_margins() }
+}
+
+pub fn ask(question: &Question) -> Outcome {
+    match *question {
+        Question::Check { chart } => about(chart, |start, length| unsafe { bz_check(start, length) }),
+        Question::Point { chart, x, y } => about(chart, |start, length| unsafe { bz_point(start, length, x, y) }),
+        Question::Corner { chart, x, y } => about(chart, |start, length| unsafe { bz_corner(start, length, x, y) }),
+        Question::Head { a, b } => head(a, b),
+        Question::Area { chart } => area(chart),
+        Question::Gauge { card, sample } => gauge(card, sample),
+        Question::Read { file, room } => read(file, room),
+    }
+}

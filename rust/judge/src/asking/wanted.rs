@@ -1,0 +1,69 @@
+//! Questions with the answers that document 01's rules want.
+
+use super::answer::Answer;
+use super::question::Question;
+use crate::rules::chart::{verdict, Chart};
+use crate::rules::files;
+use crate::rules::gauges::{reading, Card};
+use crate::rules::heads::smaller_head;
+use crate::rules::records::{run_at, Point};
+
+/// A question and the answer that is wanted.
+pub type Asked<'a> = (Question<'a>, Answer);
+
+/// An array that is asked about as a chart. "Every question about charts, but for the corner run and the smaller head,
+/// first gives these refusals."
+pub struct Subject<'a> {
+    pub numbers: &'a [i16],
+    /// document 01's number and index
+    pub verdict: (u8, usize),
+    /// where it is accepted
+    pub chart: Option<Chart>,
+}
+
+impl<'a> Subject<'a> {
+    pub fn new(numbers: &'a [i16]) -> Self {
+        let verdict = verdict(numbers);
+        Subject { numbers, verdict, chart: (verdict.0 == 0).then(|| Chart::new(numbers)) }
+    }
+
+    /// What the chart answers, or its refusal.
+    fn unless_refused(&self, answer: impl FnOnce(&Chart) -> Answer) -> Answer {
+        self.chart.as_ref().map_or(Answer::Refused(self.verdict.0, self.verdict.1), answer)
+    }
+
+    pub fn check(&self) -> Asked<'a> {
+        (Question::Check { chart: self.numbers }, self.unless_refused(|_| Answer::Accepted))
+    }
+
+    pub fn area(&self) -> Asked<'a> {
+        let area = |chart: &Chart| Answer::Area(i64::try_from(chart.twice_area()).expect("twice an area of the grid"));
+        (Question::Area { chart: self.numbers }, self.unless_refused(area))
+    }
+
+    pub fn point(&self, p: Point) -> Asked<'a> {
+        let (x, y) = (p.0 as i16, p.1 as i16);
+        (Question::Point { chart: self.numbers, x, y }, self.unless_refused(|chart| Answer::At(chart.place(p))))
+    }
+
+    /// "An empty part if there is none or the chart is refused."
+    pub fn corner(&self, p: Point) -> Asked<'a> {
+        let (x, y) = (p.0 as i16, p.1 as i16);
+        let run = self.chart.as_ref().map_or(0..0, |_| run_at(self.numbers, p));
+        (Question::Corner { chart: self.numbers, x, y }, Answer::Run(run))
+    }
+}
+
+pub fn head<'a>(a: &'a [i16], b: &'a [i16]) -> Asked<'a> {
+    (Question::Head { a, b }, Answer::Head(smaller_head(a, b)))
+}
+
+pub fn gauge(card: Card, sample: i16) -> Asked<'static> {
+    let answer = reading(card, sample).map_or_else(|number| Answer::Refused(number, 0), Answer::Read);
+    (Question::Gauge { card, sample }, answer)
+}
+
+pub fn read(file: &[u8], room: usize) -> Asked<'_> {
+    let refused = |(number, place)| Answer::Refused(number, place);
+    (Question::Read { file, room }, files::read(file, room).map_or_else(refused, Answer::Records))
+}

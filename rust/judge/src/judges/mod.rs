@@ -1,0 +1,10 @@
+//! The judges: what each asks, and how its own answers are held to others.
+
+pub mod charts;
+pub mod files;
+pub mod gauges;
+pub mod heads;
+pub mod nearest;
+pub mod objections;
+pub mod pipe;
+pub mod tape;

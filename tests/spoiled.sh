@@ -1,0 +1,64 @@
+#!/usr/bin/env bash
+# That a wrong answer fails the tests. The archive is made anew with functions that spoil one thing, by the name that
+# the environment variable SPOIL has (tests/boundary/spoil.c); the judge and the replay of its tape must pass where it
+# has none, and fail by their counts for each of them.
+set -uo pipefail
+source "$(dirname "$0")/boundary/begin.sh"
+spoiled=$PWD/$made/spoiled
+
+# The archive, its functions renamed, with those of spoil.c in their place.
+build_spoiled() {
+    local renamed=() name
+    for name in $(nm --defined-only --extern-only "$archive" | sed -nE 's/^.* T (bz_[a-z0-9_]+)$/\1/p'); do
+        renamed+=(--redefine-sym "$name=sound_$name")
+    done
+    mkdir -p "$spoiled" && rm -f "$spoiled/librig.a" &&
+        objcopy "${renamed[@]}" "$archive" "$spoiled/librig.a" &&
+        gcc -std=c99 -O2 -Wall -Wextra -Werror -I include -c -o "$spoiled/spoil.o" tests/boundary/spoil.c &&
+        ar rs "$spoiled/librig.a" "$spoiled/spoil.o" 2> "$log"
+}
+
+# The judge and the replay, both over the spoiled archive.
+build_both() {
+    (cd rust && BERZULKA_LIB=$spoiled CARGO_TARGET_DIR=$spoiled/rust cargo build --release -q -p judge) &&
+        gcc -std=c99 -O2 -I include -o "$spoiled/stress" tests/boundary/stress.c "$spoiled/librig.a"
+}
+
+ask_judge() {
+    "$spoiled/rust/release/judge" "$(judge_of "${SPOIL:-}")" 300 1
+}
+
+# Which judge asks the function that is spoiled; all of them where none is.
+judge_of() {
+    case $1 in
+        check-* | point-* | corner-* | area-*) echo charts ;;
+        head-*) echo heads ;;
+        gauge-* | pressure-*) echo gauges ;;
+        read-*) echo files ;;
+        *) echo all ;;
+    esac
+}
+
+ask_replay() {
+    "$spoiled/stress" < "$scratch/tape"
+}
+
+# fails_by_count THING COMMAND: with this spoiled the command ends badly, and says itself how much failed.
+fails_by_count() {
+    SPOIL=$1 "$2" > "$scratch/told" 2>&1
+    local status=$?
+    cat "$scratch/told"
+    [ "$status" -ne 0 ] && tail -n 1 "$scratch/told" | grep -qxE '[0-9]+ passed, [1-9][0-9]* failed'
+}
+
+unset SPOIL
+things=$(grep -oE 'is_spoiled\("[a-z-]+"' tests/boundary/spoil.c | cut -d '"' -f 2) || exit 1
+build_spoiled && build_both && "$spoiled/rust/release/judge" tape 300 1 > "$scratch/tape" || exit 1
+expect 'nothing spoiled, the judge' ask_judge
+expect 'nothing spoiled, the replay' ask_replay
+for thing in $things; do
+    expect "$thing spoiled, the judge" fails_by_count "$thing" ask_judge
+    expect "$thing spoiled, the replay" fails_by_count "$thing" ask_replay
+done
+
+closes
