@@ -5,7 +5,7 @@ mod gauges;
 use area::Area;
 use chart::Refusal;
 use chart::Verdict;
-use question::Nearest;
+use nearest::Nearest;
 use question::Place;
 
 fn main() {
@@ -56,7 +56,7 @@ fn say_place(text: &[u8], s: &[i16], x: i16, y: i16) {
 fn say_by_mark(text: &[u8], s: &[i16], x: i16, y: i16) {
     say(text);
     say(b", by the mark: ");
-    say_answer(question::inside_by_mark(s, x, y));
+    say_answer(nearest::inside_by_mark(s, x, y));
 }
 
 fn say_answer(a: Place) {
@@ -71,7 +71,7 @@ fn say_answer(a: Place) {
 fn say_nearest(text: &[u8], s: &[i16], x: i16, y: i16) {
     say(text);
     say(b": ");
-    let a = question::nearest_below(s, x, y);
+    let a = nearest::nearest_below(s, x, y);
     match a {
         Nearest::Nothing => say(b"none\n"),
         Nearest::At(i) => {

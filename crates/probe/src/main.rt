@@ -9,7 +9,7 @@
 //                         chart is refused
 ghost use Prim.Native.Nat.{_+_, _*_, _≤_, _<_};
 ghost use lib.ListN.{length};
-use question::Nearest;
+use nearest::Nearest;
 use question::Place;
 
 // How many bytes stand before a question's numbers.
@@ -99,8 +99,8 @@ fn say_points(chart: &[i16], s: &[u8], from: usize, k: usize)
 }
 
 fn say_point(chart: &[i16], x: i16, y: i16) {
-    let place = place_number(question::inside_by_mark(chart, x, y));
-    let nearest = nearest_number(question::nearest_below(chart, x, y));
+    let place = place_number(nearest::inside_by_mark(chart, x, y));
+    let nearest = nearest_number(nearest::nearest_below(chart, x, y));
     let said = [place, (nearest % 256) as u8, (nearest / 256) as u8];
     io::write_all(1, &said);
 }

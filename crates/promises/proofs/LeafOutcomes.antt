@@ -10,6 +10,7 @@ use Rattle.grid.specs.declared.Coord.{Coord}
 use Rattle.grid.specs.declared.Located.{Located}
 use Rattle.points.specs.declared.Turn.{Turn}
 use Rattle.record.specs.declared.Record.{Record}
+use Rattle.question.specs.declared.Place.{Place}
 use Rattle.grid.proofs.Coord.new.Kinds as new-kinds
 use Rattle.grid.proofs.Coord.new.Reads as new
 use Rattle.grid.proofs.Coord.least.Kinds as least-kinds
@@ -68,6 +69,12 @@ use Rattle.segment.proofs.is_counted_for.Kinds as is-counted-for-kinds
 use Rattle.segment.proofs.is_counted_for.Reads as is-counted-for
 use Rattle.segment.proofs.is_higher.Kinds as is-higher-kinds
 use Rattle.segment.proofs.is_higher.Reads as is-higher
+use Rattle.question.proofs.is_below.Kinds as is-below-kinds
+use Rattle.question.proofs.is_below.Reads as is-below
+use Rattle.question.proofs.is_edge.Kinds as is-edge-kinds
+use Rattle.question.proofs.is_edge.Reads as is-edge
+use Rattle.question.proofs.place_by.Kinds as place-by-kinds
+use Rattle.question.proofs.place_by.Reads as place-by
 use Rattle.promises.proofs.Settled.{Settled}
 
 -- ---- grid
@@ -164,3 +171,14 @@ same-is-counted-for κs a v w s t h k = h ∙ sym k
 
 pub same-is-higher : Settled 0 is-higher-kinds.ps is-higher-kinds.r Bool is-higher.Post
 same-is-higher κs a v w s t h k = h ∙ sym k
+
+-- ---- question
+
+pub same-is-below : Settled 0 is-below-kinds.ps is-below-kinds.r Bool is-below.Post
+same-is-below κs a v w s t h k = h ∙ sym k
+
+pub same-is-edge : Settled 1 is-edge-kinds.ps is-edge-kinds.r Bool is-edge.Post
+same-is-edge κs a v w s t h k = h ∙ sym k
+
+pub same-place-by : Settled 0 place-by-kinds.ps place-by-kinds.r Place place-by.Post
+same-place-by κs a v w s t h k = h ∙ sym k

@@ -18,7 +18,7 @@ use denote.Triple.Clauses.{AtExit}
 use borrow.Fn.Kinds.{endedOf, Dens}
 use Rattle.chart.specs.declared.Verdict.{Verdict}
 use Rattle.question.specs.declared.Place.{Place}
-use Rattle.question.specs.declared.Nearest.{Nearest}
+use Rattle.nearest.specs.declared.Nearest.{Nearest}
 use Rattle.area.specs.declared.Area.{Area}
 use Rattle.gauge.specs.declared.Gauged.{Gauged}
 use Rattle.gauge.proofs.ReadingLaws.{gauges-one}
@@ -29,10 +29,10 @@ use Rattle.chart.proofs.check.Kinds as check-kinds
 use Rattle.chart.proofs.check.Reads as check
 use Rattle.question.proofs.point.Kinds as point-kinds
 use Rattle.question.proofs.point.Reads as point
-use Rattle.question.proofs.nearest_below.Kinds as nearest-below-kinds
-use Rattle.question.proofs.nearest_below.Reads as nearest-below
-use Rattle.question.proofs.inside_by_mark.Kinds as inside-by-mark-kinds
-use Rattle.question.proofs.inside_by_mark.Reads as inside-by-mark
+use Rattle.nearest.proofs.nearest_below.Kinds as nearest-below-kinds
+use Rattle.nearest.proofs.nearest_below.Reads as nearest-below
+use Rattle.nearest.proofs.inside_by_mark.Kinds as inside-by-mark-kinds
+use Rattle.nearest.proofs.inside_by_mark.Reads as inside-by-mark
 use Rattle.area.proofs.area2.Kinds as area2-kinds
 use Rattle.area.proofs.area2.Reads as area2
 use Rattle.gauge.proofs.read_sample.Kinds as read-sample-kinds

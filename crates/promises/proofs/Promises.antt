@@ -39,12 +39,12 @@ use Rattle.region.proofs.MarkLaws.{nearest-one}
 use Rattle.question.specs.declared.Place.{Place}
 use Rattle.question.specs.declared.Place.the-variants.{Outside, Inside, Edge}
 use Rattle.question.specs.declared.Place.the-variants as place
-use Rattle.question.specs.declared.Nearest.the-variants.{Nothing, At}
+use Rattle.nearest.specs.declared.Nearest.the-variants.{Nothing, At}
 use Rattle.question.specs.Places.{byCount, placeOf, placeIf, placed}
-use Rattle.question.specs.Nearests.{nearestOf, nearestIf, nearestBelow, byMark}
+use Rattle.nearest.specs.Nearests.{nearestOf, nearestIf, nearestBelow, byMark}
 use Rattle.question.specs.Corners.{Corner}
 use Rattle.question.proofs.CornerLaws.{cornerOf-accepted}
-use Rattle.question.proofs.ByMarkLaws.{byMark-byCount}
+use Rattle.nearest.proofs.ByMarkLaws.{byMark-byCount}
 
 -- ---- demand 2
 

@@ -17,9 +17,10 @@ use Rattle.chart.proofs.IndexLaws.{verdict-told}
 use Rattle.area.specs.Areas.{areaRefusal, areaOf}
 use Rattle.area.proofs.AreaLaws.{areaOf-refusal}
 use Rattle.question.specs.Places.{placed, placeRefusal}
-use Rattle.question.specs.Nearests.{nearestBelow, nearestRefusal}
+use Rattle.nearest.specs.Nearests.{nearestBelow, nearestRefusal}
 use Rattle.question.specs.Corners.{Corner}
-use Rattle.question.proofs.RefusalLaws.{placed-refusal, nearestBelow-refusal}
+use Rattle.question.proofs.RefusalLaws.{placed-refusal}
+use Rattle.nearest.proofs.RefusalLaws.{nearestBelow-refusal}
 use Rattle.question.proofs.CornerLaws.{cornerOf-refused}
 
 pub point-refusal : (s : List ℤ) (p : Point) → placeRefusal (placed s p) ≡ refusalOf (verdict s)

@@ -1,24 +1,19 @@
 -- A question about a chart first gives the chart's refusal, and no refusal where it is answered.
---     placed-refusal, nearestBelow-refusal    so, in the paper's number and index
+--     placed-refusal    so, in the paper's number and index
 -- Assumes nothing.
 use mathlib.Core.Path.{_≡_, refl}
 use mathlib.Core.Bool.{Bool, true, false, cond}
 use mathlib.Core.List.{List}
-use Prim.Native.Nat.{ℕ}
-use lib.Dec.{ltb}
 use lib.IntN.{ℤ}
 use Rattle.counts.specs.Count.{odd}
-use Rattle.counts.specs.Scan.{firstFrom}
 use Rattle.plane.specs.declared.Point.{Point}
-use Rattle.record.specs.Records.{recordAt, recordCount, records}
+use Rattle.record.specs.Records.{records}
 use Rattle.chart.specs.declared.Verdict.{Verdict}
 use Rattle.chart.specs.declared.Verdict.the-variants.{Accepted, Refused}
 use Rattle.chart.specs.Verdicts.{noRefusal, refusalOf, verdict}
-use Rattle.region.specs.Boundaries.{held, below, nearest}
+use Rattle.region.specs.Boundaries.{held, below}
 use Rattle.question.specs.declared.Place.the-variants.{Outside, Inside, Edge}
-use Rattle.question.specs.declared.Nearest.the-variants.{Nothing, At}
 use Rattle.question.specs.Places.{placeOf, placeIf, placed, placeRefusal}
-use Rattle.question.specs.Nearests.{nearestOf, nearestIf, nearestBelow, nearestRefusal}
 
 pub placed-refusal : (s : List ℤ) (p : Point) → placeRefusal (placed s p) ≡ refusalOf (verdict s)
 unfolding placed placeOf
@@ -31,18 +26,4 @@ placed-refusal s p = by-verdict (verdict s)
 
     by-verdict : (v : Verdict) → placeRefusal (placeIf v (placeOf (records s) p)) ≡ refusalOf v
     by-verdict Accepted = answered (held (records s) p) (odd (below (records s) p))
-    by-verdict (Refused r) = refl
-
-pub nearestBelow-refusal : (s : List ℤ) (p : Point) → nearestRefusal (nearestBelow s p) ≡ refusalOf (verdict s)
-unfolding nearestBelow nearestOf
-nearestBelow-refusal s p = by-verdict (verdict s)
-  where
-    answered : (b : Bool) (i : ℕ) → nearestRefusal (cond b (At i) Nothing) ≡ noRefusal
-    answered true i = refl
-    answered false i = refl
-
-    by-verdict : (v : Verdict) → nearestRefusal (nearestIf v (nearestOf s (recordCount s) p)) ≡ refusalOf v
-    by-verdict Accepted =
-        let i = firstFrom (nearest (records s) p) (recordAt s) 0 (recordCount s) in
-        answered (ltb i (recordCount s)) i
     by-verdict (Refused r) = refl

@@ -25,12 +25,15 @@ use question::Place;
 
 // ---- an answer's bits
 
+// What bit 32 counts for: the upper half of an answer begins there.
+const UPPER: u64 = 4294967296;
+
 // Bits 0 to 31 a value, index or place; 32 to 47 a refusal's number; 48 to 55 the chart named; 56 to 63 a kind.
 fn pack(value: usize, number: u16, chart: u8, kind: u8) -> u64
     requires { ⌜ value < 2 ^ 32 ⌝ }
     ensures { λ r. ⌜ r ≡ packed value number chart kind ⌝ }
 {
-    value as u64 + 4294967296 * (number as u64 + 65536 * (chart as u64 + 256 * (kind as u64)))
+    value as u64 + UPPER * (number as u64 + 65536 * (chart as u64 + 256 * (kind as u64)))
 }
 
 // A refusal that names no chart.
@@ -41,6 +44,7 @@ fn pack_refusal(r: Refusal) -> u64
     pack(r.index, r.number, 0, 0)
 }
 
+// Outside is kind 0, Inside 1, Edge 2.
 fn pack_place(a: Place) -> u64
     requires { ⌜ placeRefusal a .index < 2 ^ 32 ⌝ }
     ensures { λ n. ⌜ n ≡ pointAnswer a ⌝ }
@@ -55,6 +59,7 @@ fn pack_place(a: Place) -> u64
 
 // ---- questions about a chart
 
+// 0 where the chart is accepted.
 #[no_mangle]
 pub extern "C" fn bz_check(chart: &[i16]) -> u64
     ensures { λ r. ⌜ r ≡ checkAnswer (verdict (now (chart .entry))) ⌝ }
@@ -73,6 +78,7 @@ pub extern "C" fn bz_point(chart: &[i16], x: i16, y: i16) -> u64
     pack_place(question::point(chart, x, y))
 }
 
+// The run's start in the lower half and its length in the upper, in numbers; 0 where it is empty. It gives no refusal.
 #[no_mangle]
 pub extern "C" fn bz_corner(chart: &[i16], x: i16, y: i16) -> u64
     ensures { λ r. ⌜ r ≡ cornerAnswer (cornerOf (now (chart .entry)) (pointOf x y)) ⌝ }
@@ -80,9 +86,10 @@ pub extern "C" fn bz_corner(chart: &[i16], x: i16, y: i16) -> u64
     let run = question::corner_of(chart, x, y);
     let from = run.from as u64;
     let length = (run.upto - run.from) as u64;
-    from + 4294967296 * length
+    from + UPPER * length
 }
 
+// Kind 0 where neither array has a whole record, 1 for the first array's head, 2 for the second's.
 #[no_mangle]
 pub extern "C" fn bz_head(a: &[i16], b: &[i16]) -> u64
     ensures { λ r. ⌜ r ≡ headAnswer (headOf (now (a .entry)) (now (b .entry))) ⌝ }
@@ -95,6 +102,7 @@ pub extern "C" fn bz_head(a: &[i16], b: &[i16]) -> u64
     }
 }
 
+// Twice the area goes to `out`, which stays as it is where the chart is refused.
 #[no_mangle]
 pub extern "C" fn bz_area2(chart: &[i16], out: &mut i64) -> u64
     ensures { λ r. ⌜ r ≡ areaAnswer (areaOf (now (chart .entry))) ⌝ }
@@ -140,6 +148,7 @@ fn gauged(kind: u8, first: f64, second: f64, sample: i16) -> Gauged
     }
 }
 
+// Pressure and row are always written.
 #[no_mangle]
 pub extern "C" fn bz_gauge(
     kind: u8,
@@ -161,6 +170,7 @@ pub extern "C" fn bz_gauge(
 
 // ---- files
 
+// How many records were read; `out` stays as it is where the file is refused.
 #[no_mangle]
 pub extern "C" fn bz_read(bytes: &[u8], out: &mut [i16]) -> u64
     ensures { λ r. ⌜ FileRead (now (bytes .entry)) (now (out .entry)) (now (out .exit)) r ⌝ }

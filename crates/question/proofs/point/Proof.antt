@@ -11,4 +11,4 @@ pub point-spec : {M : Type 1} → statement M
 point-spec =
     tie.close
     (tie.spec (λ c κs. search needs) (λ c κs. search needs) (λ c. search needs) (λ c κs. search needs)
-    (λ c κs. search needs) (λ c. search needs) (λ c. search all) (λ c. search all))
+    (λ c κs. search needs) (λ c κs. search needs) (λ c. search needs) (λ c. search all) (λ c. search all))

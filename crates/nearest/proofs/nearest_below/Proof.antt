@@ -2,9 +2,9 @@
 use borrow.Author.Needs.{needs}
 use Rattle.grid.proofs.CastLaws.{pointOf-passed}
 use Rattle.chart.proofs.RegionLaws.{accepted-sound}
-use Rattle.question.proofs.NearestLaws.{nearestBelow-accepted, nearestBelow-refused}
-use Rattle.question.proofs.nearest_below.Statement.{statement}
-use Rattle.question.proofs.nearest_below.Tie as tie
+use Rattle.nearest.proofs.NearestLaws.{nearestBelow-accepted, nearestBelow-refused}
+use Rattle.nearest.proofs.nearest_below.Statement.{statement}
+use Rattle.nearest.proofs.nearest_below.Tie as tie
 
 ruleset all = (needs, accepted-sound, nearestBelow-accepted, nearestBelow-refused, pointOf-passed)
 

@@ -1,8 +1,8 @@
 -- `is_higher_below` meets its contract: counted, and then which is higher. Assumes nothing.
 use borrow.Author.Needs.{needs}
-use Rattle.question.proofs.NearestLaws.{higherBelow-counted, higherBelow-uncounted}
-use Rattle.question.proofs.is_higher_below.Statement.{statement}
-use Rattle.question.proofs.is_higher_below.Tie as tie
+use Rattle.nearest.proofs.NearestLaws.{higherBelow-counted, higherBelow-uncounted}
+use Rattle.nearest.proofs.is_higher_below.Statement.{statement}
+use Rattle.nearest.proofs.is_higher_below.Tie as tie
 
 ruleset all = (needs, higherBelow-counted, higherBelow-uncounted)
 

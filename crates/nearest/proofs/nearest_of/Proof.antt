@@ -1,8 +1,8 @@
 -- `nearest_of` meets its contract: the first that is nearest, if there is one. Assumes nothing.
 use borrow.Author.Needs.{needs}
-use Rattle.question.proofs.NearestLaws.{nearestOf-at, nearestOf-nothing}
-use Rattle.question.proofs.nearest_of.Statement.{statement}
-use Rattle.question.proofs.nearest_of.Tie as tie
+use Rattle.nearest.proofs.NearestLaws.{nearestOf-at, nearestOf-nothing}
+use Rattle.nearest.proofs.nearest_of.Statement.{statement}
+use Rattle.nearest.proofs.nearest_of.Tie as tie
 
 ruleset all = (needs, nearestOf-at, nearestOf-nothing)
 

@@ -2,9 +2,9 @@
 -- nothing.
 use borrow.Author.Needs.{needs}
 use Rattle.grid.specs.Coordinates.{up}
-use Rattle.question.proofs.ByMarkLaws.{below-named, below-nothing}
-use Rattle.question.proofs.is_marked_below.Statement.{statement}
-use Rattle.question.proofs.is_marked_below.Tie as tie
+use Rattle.nearest.proofs.ByMarkLaws.{below-named, below-nothing}
+use Rattle.nearest.proofs.is_marked_below.Statement.{statement}
+use Rattle.nearest.proofs.is_marked_below.Tie as tie
 
 ruleset all = (needs, below-named, below-nothing)
 

@@ -3,9 +3,9 @@ use mathlib.Core.Logic.{⊎-elim}
 use Prim.Native.Nat.{_-_}
 use borrow.Author.Needs.{needs}
 use Rattle.counts.proofs.TopmostLaws.{topmost-start}
-use Rattle.question.proofs.TopsLaws.{Tops, tops-take, tops-keep, tops-nearest}
-use Rattle.question.proofs.first_nearest.Statement.{statement}
-use Rattle.question.proofs.first_nearest.Tie as tie
+use Rattle.nearest.proofs.TopsLaws.{Tops, tops-take, tops-keep, tops-nearest}
+use Rattle.nearest.proofs.first_nearest.Statement.{statement}
+use Rattle.nearest.proofs.first_nearest.Tie as tie
 
 ruleset all = (needs, topmost-start, tops-take, tops-keep, tops-nearest)
 

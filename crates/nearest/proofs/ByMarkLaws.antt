@@ -23,10 +23,10 @@ use Rattle.record.specs.Records.{recordAt, firstRecords, marked}
 use Rattle.chart.specs.Regions.{Sound}
 use Rattle.region.specs.Boundaries.{below, nearest}
 use Rattle.region.proofs.MarkLaws.{nearest-mark, nearest-none}
 use Rattle.question.specs.declared.Place.the-variants as place
-use Rattle.question.specs.declared.Nearest.the-variants as near
+use Rattle.nearest.specs.declared.Nearest.the-variants as near
 use Rattle.question.specs.Places.{byCount}
-use Rattle.question.specs.Nearests.{nearestOf, byMark}
+use Rattle.nearest.specs.Nearests.{nearestOf, byMark}
 
 module _ (s : List ℤ) (n : ℕ) (p : Point) (sound : Sound (firstRecords s n)) where
   module _ {k : ℕ} (near : Found (nearest (firstRecords s n) p) (recordAt s) 0 n k) where

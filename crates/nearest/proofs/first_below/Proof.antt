@@ -5,8 +5,8 @@ use Rattle.counts.proofs.LoopLaws.{Seen}
 use Rattle.counts.proofs.ReadLaws.{reading}
 use Rattle.record.specs.Records.{recordAt}
 use Rattle.region.specs.Boundaries.{counted}
-use Rattle.question.proofs.first_below.Statement.{statement}
-use Rattle.question.proofs.first_below.Tie as tie
+use Rattle.nearest.proofs.first_below.Statement.{statement}
+use Rattle.nearest.proofs.first_below.Tie as tie
 
 ruleset all = (needs, reading)
 

@@ -20,10 +20,10 @@ use Rattle.chart.specs.declared.Verdict.{Verdict}
 use Rattle.chart.specs.declared.Verdict.the-variants.{Accepted, Refused}
 use Rattle.chart.specs.Verdicts.{noRefusal, verdict}
 use Rattle.region.specs.Boundaries.{nearest}
 use Rattle.question.specs.declared.Place.{Place}
 use Rattle.question.specs.declared.Place.the-variants as place
-use Rattle.question.specs.declared.Nearest.{Nearest}
-use Rattle.question.specs.declared.Nearest.the-variants as near
+use Rattle.nearest.specs.declared.Nearest.{Nearest}
+use Rattle.nearest.specs.declared.Nearest.the-variants as near
 
 unfoldable pub nearestOf : List ℤ → ℕ → Point → Nearest
 nearestOf s n p =

@@ -22,9 +22,9 @@ use Rattle.chart.specs.declared.Verdict.{Verdict}
 use Rattle.chart.specs.declared.Verdict.the-variants.{Accepted, Refused}
 use Rattle.chart.specs.Verdicts.{verdict}
 use Rattle.region.specs.Boundaries.{counted, higherBelow, nearest}
-use Rattle.question.specs.declared.Nearest.{Nearest}
-use Rattle.question.specs.declared.Nearest.the-variants as near
-use Rattle.question.specs.Nearests.{nearestOf, nearestIf, nearestBelow}
+use Rattle.nearest.specs.declared.Nearest.{Nearest}
+use Rattle.nearest.specs.declared.Nearest.the-variants as near
+use Rattle.nearest.specs.Nearests.{nearestOf, nearestIf, nearestBelow}
 
 module _ (p : Point) (t : Segment) (e : Record) {b : Bool} (h : b ≡ counted p e) where
   pub higherBelow-counted : {u : Segment} {a : Bool} → b ≡ true → u ≡ segment e → a ≡ higher (p .x) u t

@@ -1,0 +1,4 @@
+pub mod NearestLaws
+pub mod TopsLaws
+pub mod ByMarkLaws
+pub mod RefusalLaws
