@@ -3,13 +3,15 @@
 --                        it points
 --     nowhere            the empty part at an array's beginning
 --     atCorner p r       r's dominating end is p; offCorner is the opposite
---     runOf s p          where the run of records at p lies in s: from the first that is there to the first later one
---                        that is not; nowhere where there is none
+--     firstThere s p, firstPast s p    the first record at p, and the first later one that is not; the number of
+--                        records where there is none
+--     runOf s p          where the run of records at p lies in s: from the one to the other; nowhere if there is none
 --     Run s p r          r is that run of s
 --     wholeRecord s      s has a whole record left: five numbers
 --     fromSecond a b     the smaller head is the second array's: it has one, and comes strictly earlier or the first
 --                        has none
 --     headOf a b         which array holds the smaller head, neither where both have fewer than five numbers
+--     holder h a b, firstRecord h    the array of a and b that the head h is a part of, and which part
 --     SmallerHead a b r  r is the smaller head of a and b, a part of whichever holds it; else the empty part at the
 --                        first array's beginning
 -- These ask nothing of the array: it need be no chart. Assumes nothing.
@@ -51,7 +53,6 @@ offCorner p r = not (atCorner p r)
 abbrev pub firstThere : List ℤ → Point → ℕ
 firstThere s p = firstFrom (atCorner p) (recordAt s) 0 (recordCount s)
 
--- the first later place that is not at p
 abbrev pub firstPast : List ℤ → Point → ℕ
 firstPast s p = firstFrom (offCorner p) (recordAt s) (firstThere s p) (recordCount s)
 
