@@ -1,33 +1,25 @@
--- Rows of the check as a program finds them (specs/Rows.antt): from what its loops answer over the first n records.
+-- Rows of the check as a program finds them (specs/Rows.antt): from what its functions answer.
 --     first-there, first-past            whether the first place that a loop found is one of n
 --     notAfter-first, notAfter-later     row 5 at the first record, which comes after none, and at a later one
---     noOtherHalf-found                  row 6, by the first place of the other half
---     touching-found                     row 7, by the first place of a segment that touches
---     oddEnd-counted                     row 8, by the number of ends
---     countedMark-odd, countedMark-even  the counted mark, by the number of segments counted
---     wrongMark-is                       row 9, by the counted mark
+--     noOtherHalf-is, touching-is, oddEnd-is, wrongMark-is    rows 6 to 9, by what is among the records
 -- Assumes nothing.
-use mathlib.Core.Path.{_≡_, sym, ap, ap₂, _∙_}
+use mathlib.Core.Path.{_≡_, ap, ap₂, _∙_}
 use mathlib.Core.Logic.{⊎-elim}
-use mathlib.Core.Bool.{Bool, true, false, not, cond}
+use mathlib.Core.Bool.{Bool, true, false, not}
 use mathlib.Core.List.{List}
 use Prim.Native.Nat.{ℕ, _-_, _%_, _<_, _≤_}
 use native.Mathlib.Omega.{arith}
-use lib.Dec.{ltb, leb, eqb}
+use lib.Dec.{ltb, eqb}
 use lib.IntN.{ℤ}
-use borrow.Author.Tests.{lt-ltb, le-ltb, eq-eqb, ne-eqb}
-use Rattle.counts.specs.Count.{any}
-use Rattle.counts.specs.Scan.{Found, Counted}
+use borrow.Author.Tests.{lt-ltb, le-ltb}
 use Rattle.counts.proofs.TestLaws.{lt-or-le}
-use Rattle.counts.proofs.ReadLaws.{found-any, found-none}
 use Rattle.plane.specs.declared.Segment.{Segment}
-use Rattle.plane.specs.Touching.{touches}
-use Rattle.plane.specs.Columns.{endsAt, countedFor}
 use Rattle.record.specs.declared.Record.{Record}
-use Rattle.record.specs.Records.{recordAt, firstRecords, unmarked, marked}
+use Rattle.record.specs.Records.{recordAt, records}
 use Rattle.record.specs.Order.{otherHalf, precedes}
-use Rattle.segment.specs.Segments.{segment, ofSegment, isRecord}
-use Rattle.chart.specs.Rows.{notAfter, noOtherHalf, touching, oddEnd, countedMark, wrongMark}
+use Rattle.segment.specs.Segments.{segment}
+use Rattle.among.specs.Among.{has, touched, endCount, countedMark}
+use Rattle.chart.specs.Rows.{notAfter, noOtherHalf, touching, oddEnd, wrongMark}
 
 pub first-there : {r i n : ℕ} → r ≡ i → r < n → ltb i n ≡ true
 first-there {r} {i} {n} e l = lt-ltb i n (omega arith)
@@ -45,30 +37,17 @@ module _ (s : List ℤ) (i : ℕ) where
       let l : 0 < i = ⊎-elim (λ l. l) (λ k. absurd (h (omega arith))) (lt-or-le 0 i) in
       rw (lt-ltb 0 i l) (ap not (d ∙ ap₂ precedes p q))
 
-module _ (s : List ℤ) (n : ℕ) (r : Record) where
-  pub noOtherHalf-found : {e : Record} {i : ℕ} → e ≡ otherHalf r → Found (isRecord e) (recordAt s) 0 n i
-      → leb n i ≡ noOtherHalf (firstRecords s n) r
-  noOtherHalf-found {e} d h =
-      found-none (isRecord e) (recordAt s) h ∙ ap (λ e. not (any (isRecord e) (firstRecords s n))) d
+module _ (s : List ℤ) (r : Record) where
+  pub noOtherHalf-is : {e : Record} {b : Bool} → e ≡ otherHalf r → b ≡ has (records s) e
+      → not b ≡ noOtherHalf (records s) r
+  noOtherHalf-is d h = ap not (h ∙ ap (has (records s)) d)
 
-  pub touching-found : {t : Segment} {i : ℕ} → t ≡ segment r → Found (ofSegment (touches t)) (recordAt s) 0 n i
-      → ltb i n ≡ touching (firstRecords s n) r
-  touching-found {t} d h =
-      found-any (ofSegment (touches t)) (recordAt s) h ∙ ap (λ t. any (ofSegment (touches t)) (firstRecords s n)) d
+  pub touching-is : {t : Segment} {b : Bool} → t ≡ segment r → b ≡ touched (records s) t → b ≡ touching (records s) r
+  touching-is d h = h ∙ ap (touched (records s)) d
 
-  pub oddEnd-counted : {m : ℕ} → Counted (ofSegment (endsAt (r .dom))) (recordAt s) n m
-      → eqb (m % 2) 1 ≡ oddEnd (firstRecords s n) r
-  oddEnd-counted h = ap (λ m. eqb (m % 2) 1) (h .is)
+  pub oddEnd-is : {m : ℕ} → m ≡ endCount (records s) (r .dom) → eqb (m % 2) 1 ≡ oddEnd (records s) r
+  oddEnd-is h = ap (λ m. eqb (m % 2) 1) h
 
-  pub wrongMark-is : {t : Segment} {m : ℕ} → t ≡ segment r → m ≡ countedMark (firstRecords s n) t
-      → not (eqb (r .mark) m) ≡ wrongMark (firstRecords s n) r
-  wrongMark-is d e = ap (λ m. not (eqb (r .mark) m)) (e ∙ ap (countedMark (firstRecords s n)) d)
-
-module _ (s : List ℤ) (n : ℕ) (t : Segment) {m : ℕ} (h : Counted (ofSegment (countedFor t)) (recordAt s) n m) where
-  pub countedMark-odd : m % 2 ≡ 1 → marked ≡ countedMark (firstRecords s n) t
-  countedMark-odd e =
-      ap (λ b. cond b marked unmarked) (sym (eq-eqb (m % 2) 1 e) ∙ ap (λ m. eqb (m % 2) 1) (h .is))
-
-  pub countedMark-even : (m % 2 ≡ 1 → ⊥) → unmarked ≡ countedMark (firstRecords s n) t
-  countedMark-even e =
-      ap (λ b. cond b marked unmarked) (sym (ne-eqb (m % 2) 1 e) ∙ ap (λ m. eqb (m % 2) 1) (h .is))
+  pub wrongMark-is : {t : Segment} {m : ℕ} → t ≡ segment r → m ≡ countedMark (records s) t
+      → not (eqb (r .mark) m) ≡ wrongMark (records s) r
+  wrongMark-is d e = ap (λ m. not (eqb (r .mark) m)) (e ∙ ap (countedMark (records s)) d)

@@ -26,7 +26,8 @@ use Rattle.record.specs.Order.{left, otherHalf, Proper}
 use Rattle.record.proofs.HalfLaws.{left-otherHalf}
 use Rattle.segment.specs.Segments.{segment, ofSegment}
 use Rattle.segment.proofs.SegmentLaws.{segment-left, segment-forward, segment-otherHalf}
-use Rattle.chart.specs.Rows.{touching, endCount, oddEnd}
+use Rattle.among.specs.Among.{endCount}
+use Rattle.chart.specs.Rows.{touching, oddEnd}
 
 module _ (rs : List Record) (proper : (r : Record) → r ∈ rs → Proper r)
     (halves : (r : Record) → r ∈ rs → otherHalf r ∈ rs) where

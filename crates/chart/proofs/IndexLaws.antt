@@ -31,9 +31,10 @@ firstly-told k i n v h few rest = go (ltb i n) refl
     go true e = told k i h (omega (arith, ltb-true i n e))
     go false e = rest
 
-judged-told : (s : List ℤ) (n : ℕ) → n ≤ limit → Told (refusalOf (judged s n))
+judged-told : (s : List ℤ) → recordCount s ≤ limit → Told (refusalOf (judged s))
 unfolding judged
-judged-told s n few =
+judged-told s few =
+    let n = recordCount s in
     firstly-told 3 _ n _ (omega arith) few
     (firstly-told 4 _ n _ (omega arith) few
     (firstly-told 5 _ n _ (omega arith) few
@@ -47,7 +48,7 @@ unfolding verdict
 verdict-told s = go (not (eqb (length s % width) 0)) (ltb limit (recordCount s)) refl
   where
     go : (b c : Bool) → ltb limit (recordCount s) ≡ c
-        → Told (refusalOf (cond b (refused 1 0) (cond c (refused 2 0) (judged s (recordCount s)))))
+        → Told (refusalOf (cond b (refused 1 0) (cond c (refused 2 0) (judged s))))
     go true c e = told 1 0 (omega arith) (omega arith)
     go false true e = told 2 0 (omega arith) (omega arith)
-    go false false e = judged-told s (recordCount s) (ltb-false limit (recordCount s) e)
+    go false false e = judged-told s (ltb-false limit (recordCount s) e)

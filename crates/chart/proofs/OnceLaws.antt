@@ -22,7 +22,7 @@ use Rattle.record.specs.Order.{left, Proper, precedes}
 use Rattle.record.proofs.OrderLaws.{precedes-irrefl, precedes-trans}
 use Rattle.segment.specs.Segments.{segment, isRecord}
 use Rattle.segment.proofs.SegmentLaws.{segment-left, segment-right, isRecord-true, isRecord-refl}
-use Rattle.chart.specs.Rows.{countedMark}
+use Rattle.among.specs.Among.{countedMark}
 use Rattle.chart.specs.Regions.{Sound, Region}
 use Rattle.chart.proofs.RowLaws.{equalEnds-off}
 

@@ -23,7 +23,8 @@ use Rattle.record.specs.Records.{recordAt, recordCount, unmarked, marked}
 use Rattle.record.specs.Order.{otherHalf, precedes}
 use Rattle.segment.specs.Segments.{segment, isRecord}
 use Rattle.segment.proofs.SegmentLaws.{isRecord-true, isRecord-refl}
-use Rattle.chart.specs.Rows.{equalEnds, badMark, notAfter, noOtherHalf, countedMark, wrongMark}
+use Rattle.among.specs.Among.{countedMark}
+use Rattle.chart.specs.Rows.{equalEnds, badMark, notAfter, noOtherHalf, wrongMark}
 use Rattle.chart.proofs.CaseLaws.{notAfter-later}
 
 pub equalEnds-off : (r : Record) → (equalEnds r ≡ false) ↔ (r .dom ≡ r .other → ⊥)

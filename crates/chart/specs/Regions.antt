@@ -19,7 +19,7 @@ use Rattle.record.specs.declared.Record.{Record}
 use Rattle.record.specs.Records.{width, recordAt, recordCount, records, unmarked, marked}
 use Rattle.record.specs.Order.{otherHalf, precedes}
 use Rattle.segment.specs.Segments.{segment}
-use Rattle.chart.specs.Rows.{endCount, countedMark}
+use Rattle.among.specs.Among.{endCount, countedMark}
 use Rattle.chart.specs.Verdicts.{limit}
 
 pub record Sound (rs : List Record) : Type 0 where

@@ -5,8 +5,8 @@
 --     noRefusal          0, with index 0
 --     refusalOf v        the paper's number and index for each case: 0 and 0 where the chart is accepted
 --     firstly k i n v    refusal k at i where i is one of n records; v where there is none
---     judged s n         of the first n records: 3 to 9, the first record at fault of each kind (specs/Rows.antt),
---                        kind after kind; a first place that is n means none
+--     judged s           of its records: 3 to 9, the first record at fault of each kind (specs/Rows.antt), kind after
+--                        kind; a first place that is the number of records means none
 --     verdict s          1  length is no multiple of five
 --                        2  more than 512 records
 --                        else as its records are judged
@@ -20,7 +20,7 @@ use lib.IntN.{ℤ}
 use lib.ListN.{length}
 use Rattle.counts.specs.Scan.{firstFrom}
 use Rattle.record.specs.declared.Record.{Record}
-use Rattle.record.specs.Records.{width, recordAt, recordCount, firstRecords}
+use Rattle.record.specs.Records.{width, recordAt, recordCount, records}
 use Rattle.chart.specs.declared.Refusal.{Refusal}
 use Rattle.chart.specs.declared.Verdict.{Verdict}
 use Rattle.chart.specs.declared.Verdict.the-variants.{Accepted, Refused}
@@ -42,9 +42,10 @@ refusalOf (Refused r) = r
 abbrev pub firstly : ℕ → ℕ → ℕ → Verdict → Verdict
 firstly k i n v = cond (ltb i n) (refused k i) v
 
-unfoldable pub judged : List ℤ → ℕ → Verdict
-judged s n =
-    let rs = firstRecords s n in
+unfoldable pub judged : List ℤ → Verdict
+judged s =
+    let n = recordCount s in
+    let rs = records s in
     let first : (Record → Bool) → ℕ = λ p. firstFrom p (recordAt s) 0 n in
     firstly 3 (first equalEnds) n
     (firstly 4 (first badMark) n
@@ -57,7 +58,7 @@ judged s n =
 unfoldable pub verdict : List ℤ → Verdict
 verdict s =
     cond (not (eqb (length s % width) 0)) (refused 1 0)
-    (cond (ltb limit (recordCount s)) (refused 2 0) (judged s (recordCount s)))
+    (cond (ltb limit (recordCount s)) (refused 2 0) (judged s))
 
 abbrev pub isAccepted : Verdict → Bool
 isAccepted Accepted = true

@@ -3,16 +3,10 @@
 ghost use mathlib.Core.Path.{_≡_};
 ghost use Prim.Native.Nat.{_+_, _*_, _≤_, _<_};
 ghost use lib.ListN.{length};
-ghost use Rattle.counts.specs.Scan.{Found, Counted};
-ghost use Rattle.plane.specs.Touching.{touches};
-ghost use Rattle.plane.specs.Columns.{endsAt, countedFor};
-ghost use Rattle.record.specs.Records.{width, recordAt, firstRecords};
-ghost use Rattle.segment.specs.Segments.{ofSegment, isRecord};
-ghost use Rattle.chart.specs.Rows.{badMark, notAfter, noOtherHalf, touching, oddEnd, wrongMark};
-ghost use Rattle.chart.specs.Rows.{equalEnds, countedMark};
+ghost use Rattle.counts.specs.Scan.{Found};
+ghost use Rattle.record.specs.Records.{width, recordAt, recordCount, records};
+ghost use Rattle.chart.specs.Rows.{equalEnds, badMark, notAfter, noOtherHalf, touching, oddEnd, wrongMark};
 ghost use Rattle.chart.specs.Verdicts.{limit, refused, judged, verdict};
-use plane::Point;
-use plane::Segment;
 use record::Record;
 use record::WIDTH;
 use record::record_at;
@@ -99,36 +93,20 @@ fn first_not_after(s: &[i16], n: usize) -> usize
 
 // ---- 6: the other half is missing
 
-fn first_same(s: &[i16], n: usize, e: Record) -> usize
-    requires { ⌜ width * n ≤ length (now s) ⌝ }
-    ensures { λ r. ⌜ Found (isRecord e) (recordAt (now (s .entry))) 0 n r ⌝ }
+fn lacks_other_half(s: &[i16], r: Record) -> bool
+    ensures { λ b. ⌜ b ≡ noOtherHalf (records (now (s .entry))) r ⌝ }
 {
-    let mut i = 0;
-    while i < n {
-        let r = record_at(s, i);
-        if segment::is_record(e, r) {
-            return i;
-        }
-        i += 1;
-    }
-    n
-}
-
-fn lacks_other_half(s: &[i16], n: usize, r: Record) -> bool
-    requires { ⌜ width * n ≤ length (now s) ⌝ }
-    ensures { λ b. ⌜ b ≡ noOtherHalf (firstRecords (now (s .entry)) n) r ⌝ }
-{
-    n <= first_same(s, n, record::other_half(r))
+    !among::has_record(s, record::other_half(r))
 }
 
 fn first_lacking(s: &[i16], n: usize) -> usize
     requires { ⌜ width * n ≤ length (now s) ⌝ }
-    ensures { λ r. ⌜ Found (noOtherHalf (firstRecords (now (s .entry)) n)) (recordAt (now (s .entry))) 0 n r ⌝ }
+    ensures { λ r. ⌜ Found (noOtherHalf (records (now (s .entry)))) (recordAt (now (s .entry))) 0 n r ⌝ }
 {
     let mut i = 0;
     while i < n {
         let r = record_at(s, i);
-        if lacks_other_half(s, n, r) {
+        if lacks_other_half(s, r) {
             return i;
         }
         i += 1;
@@ -138,42 +116,20 @@ fn first_lacking(s: &[i16], n: usize) -> usize
 
 // ---- 7: two segments touch
 
-fn is_touched(t: Segment, e: Record) -> bool
-    ensures { λ b. ⌜ b ≡ ofSegment (touches t) e ⌝ }
+fn is_taking_part(s: &[i16], r: Record) -> bool
+    ensures { λ b. ⌜ b ≡ touching (records (now (s .entry))) r ⌝ }
 {
-    record::is_left(e) && segment::is_touching(t, segment::segment_of(e))
-}
-
-fn first_touched(s: &[i16], n: usize, t: Segment) -> usize
-    requires { ⌜ width * n ≤ length (now s) ⌝ }
-    ensures { λ r. ⌜ Found (ofSegment (touches t)) (recordAt (now (s .entry))) 0 n r ⌝ }
-{
-    let mut i = 0;
-    while i < n {
-        let e = record_at(s, i);
-        if is_touched(t, e) {
-            return i;
-        }
-        i += 1;
-    }
-    n
-}
-
-fn is_taking_part(s: &[i16], n: usize, r: Record) -> bool
-    requires { ⌜ width * n ≤ length (now s) ⌝ }
-    ensures { λ b. ⌜ b ≡ touching (firstRecords (now (s .entry)) n) r ⌝ }
-{
-    first_touched(s, n, segment::segment_of(r)) < n
+    among::is_touched(s, segment::segment_of(r))
 }
 
 fn first_taking_part(s: &[i16], n: usize) -> usize
     requires { ⌜ width * n ≤ length (now s) ⌝ }
-    ensures { λ r. ⌜ Found (touching (firstRecords (now (s .entry)) n)) (recordAt (now (s .entry))) 0 n r ⌝ }
+    ensures { λ r. ⌜ Found (touching (records (now (s .entry)))) (recordAt (now (s .entry))) 0 n r ⌝ }
 {
     let mut i = 0;
     while i < n {
         let r = record_at(s, i);
-        if is_taking_part(s, n, r) {
+        if is_taking_part(s, r) {
             return i;
         }
         i += 1;
@@ -183,44 +139,21 @@ fn first_taking_part(s: &[i16], n: usize) -> usize
 
 // ---- 8: an odd number of segments ends at a point
 
-fn is_ending(p: Point, e: Record) -> bool
-    ensures { λ b. ⌜ b ≡ ofSegment (endsAt p) e ⌝ }
-{
-    record::is_left(e) && segment::is_end(p, segment::segment_of(e))
-}
-
-fn end_count(s: &[i16], n: usize, p: Point) -> usize
-    requires { ⌜ width * n ≤ length (now s) ⌝ }
-    ensures { λ m. ⌜ Counted (ofSegment (endsAt p)) (recordAt (now (s .entry))) n m ⌝ }
-{
-    let mut i = 0;
-    let mut m = 0;
-    while i < n {
-        let e = record_at(s, i);
-        if is_ending(p, e) {
-            m += 1;
-        }
-        i += 1;
-    }
-    m
-}
-
-fn is_odd_end(s: &[i16], n: usize, r: Record) -> bool
-    requires { ⌜ width * n ≤ length (now s) ⌝ }
-    ensures { λ b. ⌜ b ≡ oddEnd (firstRecords (now (s .entry)) n) r ⌝ }
+fn is_odd_end(s: &[i16], r: Record) -> bool
+    ensures { λ b. ⌜ b ≡ oddEnd (records (now (s .entry))) r ⌝ }
 {
     let d = r.dom;
-    end_count(s, n, d) % 2 == 1
+    among::end_count(s, d) % 2 == 1
 }
 
 fn first_odd_end(s: &[i16], n: usize) -> usize
     requires { ⌜ width * n ≤ length (now s) ⌝ }
-    ensures { λ r. ⌜ Found (oddEnd (firstRecords (now (s .entry)) n)) (recordAt (now (s .entry))) 0 n r ⌝ }
+    ensures { λ r. ⌜ Found (oddEnd (records (now (s .entry)))) (recordAt (now (s .entry))) 0 n r ⌝ }
 {
     let mut i = 0;
     while i < n {
         let r = record_at(s, i);
-        if is_odd_end(s, n, r) {
+        if is_odd_end(s, r) {
             return i;
         }
         i += 1;
@@ -230,54 +163,21 @@ fn first_odd_end(s: &[i16], n: usize) -> usize
 
 // ---- 9: a mark is not the counted one
 
-fn is_counted(t: Segment, e: Record) -> bool
-    ensures { λ b. ⌜ b ≡ ofSegment (countedFor t) e ⌝ }
+fn has_wrong_mark(s: &[i16], r: Record) -> bool
+    ensures { λ b. ⌜ b ≡ wrongMark (records (now (s .entry))) r ⌝ }
 {
-    record::is_left(e) && segment::is_counted_for(t, segment::segment_of(e))
-}
-
-fn mark_count(s: &[i16], n: usize, t: Segment) -> usize
-    requires { ⌜ width * n ≤ length (now s) ⌝ }
-    ensures { λ m. ⌜ Counted (ofSegment (countedFor t)) (recordAt (now (s .entry))) n m ⌝ }
-{
-    let mut i = 0;
-    let mut m = 0;
-    while i < n {
-        let e = record_at(s, i);
-        if is_counted(t, e) {
-            m += 1;
-        }
-        i += 1;
-    }
-    m
-}
-
-fn counted_mark(s: &[i16], n: usize, t: Segment) -> u16
-    requires { ⌜ width * n ≤ length (now s) ⌝ }
-    ensures { λ m. ⌜ m ≡ countedMark (firstRecords (now (s .entry)) n) t ⌝ }
-{
-    if mark_count(s, n, t) % 2 == 1 {
-        return record::MARKED;
-    }
-    record::UNMARKED
-}
-
-fn has_wrong_mark(s: &[i16], n: usize, r: Record) -> bool
-    requires { ⌜ width * n ≤ length (now s) ⌝ }
-    ensures { λ b. ⌜ b ≡ wrongMark (firstRecords (now (s .entry)) n) r ⌝ }
-{
-    let counted = counted_mark(s, n, segment::segment_of(r));
+    let counted = among::counted_mark(s, segment::segment_of(r));
     r.mark != counted
 }
 
 fn first_wrong_mark(s: &[i16], n: usize) -> usize
     requires { ⌜ width * n ≤ length (now s) ⌝ }
-    ensures { λ r. ⌜ Found (wrongMark (firstRecords (now (s .entry)) n)) (recordAt (now (s .entry))) 0 n r ⌝ }
+    ensures { λ r. ⌜ Found (wrongMark (records (now (s .entry)))) (recordAt (now (s .entry))) 0 n r ⌝ }
 {
     let mut i = 0;
     while i < n {
         let r = record_at(s, i);
-        if has_wrong_mark(s, n, r) {
+        if has_wrong_mark(s, r) {
             return i;
         }
         i += 1;
@@ -293,12 +193,13 @@ fn refused(number: u16, index: usize) -> Verdict
     Verdict::Refused(Refusal { number, index })
 }
 
-// The first n records, row after row of the table. Never more than the limit: so the work, which grows as the square of
-// n, is bounded whatever the array's length.
-fn judge(s: &[i16], n: usize) -> Verdict
-    requires { ⌜ (width * n ≤ length (now s)) × (n ≤ limit) ⌝ }
-    ensures { λ v. ⌜ v ≡ judged (now (s .entry)) n ⌝ }
+// The records, row after row of the table. Never more than the limit: so the work, which grows as the square of their
+// number, is bounded whatever the array's length.
+fn judge(s: &[i16]) -> Verdict
+    requires { ⌜ recordCount (now s) ≤ limit ⌝ }
+    ensures { λ v. ⌜ v ≡ judged (now (s .entry)) ⌝ }
 {
+    let n = s.len() / WIDTH;
     let equal = first_equal_ends(s, n);
     if equal < n {
         return refused(3, equal);
@@ -338,9 +239,8 @@ pub fn check(chart: &[i16]) -> Verdict
     if chart.len() % WIDTH != 0 {
         return refused(1, 0);
     }
-    let n = chart.len() / WIDTH;
-    if LIMIT < n {
+    if LIMIT < chart.len() / WIDTH {
         return refused(2, 0);
     }
-    judge(chart, n)
+    judge(chart)
 }

@@ -69,6 +69,14 @@ use Rattle.segment.proofs.is_counted_for.Kinds as is-counted-for-kinds
 use Rattle.segment.proofs.is_counted_for.Reads as is-counted-for
 use Rattle.segment.proofs.is_higher.Kinds as is-higher-kinds
 use Rattle.segment.proofs.is_higher.Reads as is-higher
+use Rattle.among.proofs.has_record.Kinds as has-record-kinds
+use Rattle.among.proofs.has_record.Reads as has-record
+use Rattle.among.proofs.is_touched.Kinds as is-touched-kinds
+use Rattle.among.proofs.is_touched.Reads as is-touched
+use Rattle.among.proofs.end_count.Kinds as end-count-kinds
+use Rattle.among.proofs.end_count.Reads as end-count
+use Rattle.among.proofs.counted_mark.Kinds as counted-mark-kinds
+use Rattle.among.proofs.counted_mark.Reads as counted-mark
 use Rattle.question.proofs.is_below.Kinds as is-below-kinds
 use Rattle.question.proofs.is_below.Reads as is-below
 use Rattle.question.proofs.is_edge.Kinds as is-edge-kinds
@@ -171,6 +179,20 @@ same-is-counted-for κs a v w s t h k = h ∙ sym k
 
 pub same-is-higher : Settled 0 is-higher-kinds.ps is-higher-kinds.r Bool is-higher.Post
 same-is-higher κs a v w s t h k = h ∙ sym k
+
+-- ---- among
+
+pub same-has-record : Settled 1 has-record-kinds.ps has-record-kinds.r Bool has-record.Post
+same-has-record κs a v w s t h k = h ∙ sym k
+
+pub same-is-touched : Settled 1 is-touched-kinds.ps is-touched-kinds.r Bool is-touched.Post
+same-is-touched κs a v w s t h k = h ∙ sym k
+
+pub same-end-count : Settled 1 end-count-kinds.ps end-count-kinds.r ℕ end-count.Post
+same-end-count κs a v w s t h k = h ∙ sym k
+
+pub same-counted-mark : Settled 1 counted-mark-kinds.ps counted-mark-kinds.r ℕ counted-mark.Post
+same-counted-mark κs a v w s t h k = h ∙ sym k
 
 -- ---- question
 

@@ -12,7 +12,7 @@ use Rattle.plane.specs.declared.Segment.{Segment}
 use Rattle.plane.specs.Points.{isSegment}
 use Rattle.record.specs.declared.Record.{Record}
 use Rattle.segment.specs.Segments.{ofSegment}
-use Rattle.chart.specs.Rows.{markCount}
+use Rattle.among.specs.Among.{markCount}
 
 abbrev pub upperSide : List Record → Segment → Bool
 upperSide rs s = odd (markCount rs s)

@@ -1,4 +1,4 @@
--- `end_count` meets its contract: the loop has counted the segments before i. Assumes nothing.
+-- `count_ends` meets its contract: the loop has counted the segments before i. Assumes nothing.
 use mathlib.Core.Logic.{⊎-elim}
 use Prim.Native.Nat.{_-_, _≤_}
 use borrow.Author.Needs.{needs}
@@ -7,8 +7,8 @@ use Rattle.counts.proofs.ReadLaws.{reading}
 use Rattle.plane.specs.Columns.{endsAt}
 use Rattle.record.specs.Records.{recordAt}
 use Rattle.segment.specs.Segments.{ofSegment}
-use Rattle.chart.proofs.end_count.Statement.{statement}
-use Rattle.chart.proofs.end_count.Tie as tie
+use Rattle.among.proofs.count_ends.Statement.{statement}
+use Rattle.among.proofs.count_ends.Tie as tie
 
 ruleset all = (needs, reading)
 
@@ -18,8 +18,8 @@ Inv-loop s n p i₀ m₀ i m = Counted (ofSegment (endsAt p)) (recordAt s) i m �
 abbrev μ-loop : tie.MeasureT-loop
 μ-loop s n p i₀ m₀ i m = n - i
 
-pub end-count-spec : {M : Type 1} → statement M
-end-count-spec =
+pub count-ends-spec : {M : Type 1} → statement M
+count-ends-spec =
     tie.close
     (tie.spec Inv-loop μ-loop (λ c. search all) (λ c κs. search all) (λ c κs. search all) (λ c. search all)
     (λ c. search all) (λ c. search all)

@@ -1,4 +1,4 @@
--- `mark_count` meets its contract: the loop has counted the segments before i. Assumes nothing.
+-- `count_for` meets its contract: the loop has counted the segments before i. Assumes nothing.
 use mathlib.Core.Logic.{⊎-elim}
 use Prim.Native.Nat.{_-_, _≤_}
 use borrow.Author.Needs.{needs}
@@ -7,8 +7,8 @@ use Rattle.counts.proofs.ReadLaws.{reading}
 use Rattle.plane.specs.Columns.{countedFor}
 use Rattle.record.specs.Records.{recordAt}
 use Rattle.segment.specs.Segments.{ofSegment}
-use Rattle.chart.proofs.mark_count.Statement.{statement}
-use Rattle.chart.proofs.mark_count.Tie as tie
+use Rattle.among.proofs.count_for.Statement.{statement}
+use Rattle.among.proofs.count_for.Tie as tie
 
 ruleset all = (needs, reading)
 
@@ -18,8 +18,8 @@ Inv-loop s n t i₀ m₀ i m = Counted (ofSegment (countedFor t)) (recordAt s) i
 abbrev μ-loop : tie.MeasureT-loop
 μ-loop s n t i₀ m₀ i m = n - i
 
-pub mark-count-spec : {M : Type 1} → statement M
-mark-count-spec =
+pub count-for-spec : {M : Type 1} → statement M
+count-for-spec =
     tie.close
     (tie.spec Inv-loop μ-loop (λ c. search all) (λ c κs. search all) (λ c κs. search all) (λ c. search all)
     (λ c. search all) (λ c. search all)

@@ -5,8 +5,8 @@ use Rattle.counts.proofs.LoopLaws.{Seen}
 use Rattle.counts.proofs.ReadLaws.{reading}
 use Rattle.record.specs.Records.{recordAt}
 use Rattle.segment.specs.Segments.{isRecord}
-use Rattle.chart.proofs.first_same.Statement.{statement}
-use Rattle.chart.proofs.first_same.Tie as tie
+use Rattle.among.proofs.first_same.Statement.{statement}
+use Rattle.among.proofs.first_same.Tie as tie
 
 ruleset all = (needs, reading)
 
