@@ -1,6 +1,8 @@
 # What the tests of the boundary begin with: the archive, folders for what they make, and how they count. Sourced.
 cd "$(dirname "${BASH_SOURCE[0]}")/../.." || exit 2
 PATH="$PATH:${HOME:-}/.cargo/bin"
+# the archive of this repository is asked, and what is built lies where the tests look for it
+unset BERZULKA_LIB CARGO_TARGET_DIR
 archive=target/staticlib/librig.a
 made=target/boundary
 mkdir -p "$made" || exit 2
@@ -31,7 +33,7 @@ expect() {
 
 # The judge, which stands in target/rust/release then; it asks the archive.
 build_judge() {
-    (cd rust && env -u BERZULKA_LIB cargo build --release -q -p judge)
+    (cd rust && cargo build --release -q -p judge)
 }
 
 # closes: the closing line, and the status.

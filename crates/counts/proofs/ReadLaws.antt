@@ -4,16 +4,15 @@
 --     read-yes, read-no        counting
 --     reading                  for `search`: what closes the needs of such a loop
 --     found-passes             what stands at a first place passes
---     found-any, found-none    a first place is below n exactly if some member passes
+--     found-any                a first place is below n exactly if some member passes
 -- Assumes nothing.
 use mathlib.Core.Path.{_≡_, sym, ap, _∙_}
-use mathlib.Core.Bool.{Bool, true, false, not}
+use mathlib.Core.Bool.{Bool, true, false}
 use Prim.Native.Nat.{ℕ, _+_, _<_}
 use native.Mathlib.Omega.{arith}
-use lib.Dec.{ltb, leb}
+use lib.Dec.{ltb}
 use Rattle.counts.specs.Count.{any, listed}
 use Rattle.counts.specs.Scan.{Found, Counted}
-use Rattle.counts.proofs.TestLaws.{leb-not}
 use Rattle.counts.proofs.ScanLaws.{any-first, firstFrom-passes}
 use Rattle.counts.proofs.LoopLaws.{Seen, seen-none, seen-hit, seen-more, seen-all}
 use Rattle.counts.proofs.LoopLaws.{counted-none, counted-yes, counted-no, counted-all}
@@ -43,9 +42,6 @@ module _ {A : Type 0} (p : A → Bool) (f : ℕ → A) where
 
   pub found-any : {n r : ℕ} → Found p f 0 n r → ltb r n ≡ any p (listed f 0 n)
   found-any {n} {r} h = ap (λ i. ltb i n) (h .is) ∙ sym (any-first p f n)
-
-  pub found-none : {n r : ℕ} → Found p f 0 n r → leb n r ≡ not (any p (listed f 0 n))
-  found-none {n} {r} h = leb-not n r ∙ ap not (found-any h)
 
 pub ruleset reading = (
   seen-none,
