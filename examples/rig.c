@@ -1,26 +1,33 @@
 // A small job of the rig controller in C: a chart file is read and checked, points are asked about, a gauge's sample is
-// turned into a row, and a refusal of each sort is met. rust/examples/rig.rs does the same job and prints the same.
-// From the top of the repository:
+// turned into a row, the chart is joined with a second one, and a refusal of each sort is met. rust/examples/rig.rs
+// does the same job and prints the same. From the top of the repository:
 //
 //     rt staticlib rig
 //     gcc -I include -o target/rig examples/rig.c target/staticlib/librig.a
-//     target/rig examples/square.chart
+//     target/rig examples/square.chart examples/neighbour.chart
 #include "berzulka.h"
 
 #include <stdio.h>
+#include <stdlib.h>
 
-// The longest file that can be taken has 6,658 bytes, so what lies past this buffer changes no answer.
-static uint8_t file[8192];
+// The longest file that can be taken has 6,658 bytes, so what lies past such a buffer changes no answer. No chart and
+// nothing that is made of two needs more than ROOM numbers.
+enum { BYTES = 8192, ROOM = BZ_LIMIT * BZ_WIDTH };
 
-static int16_t chart[BZ_LIMIT * BZ_WIDTH];
+static uint8_t file[BYTES], second_file[BYTES];
+static int16_t chart[ROOM], second[ROOM], joined[ROOM];
 
 // Tells a refusal, where the answer is one.
 static int is_refused(const char *what, uint64_t answer)
 {
-    unsigned number = bz_refusal(answer);
-    if (number != 0)
-        printf("%s: refused %u at %u: %s\n", what, number, bz_value(answer), bz_meaning(number));
-    return number != 0;
+    unsigned number = bz_refusal(answer), named = bz_named_chart(answer);
+    if (number == 0)
+        return 0;
+    printf("%s: refused %u at %u", what, number, bz_value(answer));
+    if (named != 0)
+        printf(" of chart %u", named);
+    printf(": %s\n", bz_meaning(number));
+    return 1;
 }
 
 static void say_records(const char *what, const int16_t *records, size_t length)
@@ -68,13 +75,30 @@ static void say_sample(size_t length, int16_t sample)
     say_place(length, 3, row);
 }
 
-static void say_refusals(size_t size, size_t length)
+// How many records are made of two charts.
+static void say_joined(const char *what, uint64_t answer)
+{
+    if (!is_refused(what, answer))
+        printf("%s: %u records\n", what, bz_value(answer));
+}
+
+// What is made of the chart and the second one, the last time into an array without room.
+static void say_joins(size_t length, size_t second_length)
+{
+    say_joined("union with the second chart", bz_union(chart, length, second, second_length, joined, ROOM));
+    say_joined("intersection", bz_intersection(chart, length, second, second_length, joined, ROOM));
+    say_joined("difference", bz_difference(chart, length, second, second_length, joined, ROOM));
+    say_joined("union without room", bz_union(chart, length, second, second_length, joined, 0));
+}
+
+static void say_refusals(size_t size, size_t length, size_t second_length)
 {
     double pressure;
     int16_t row;
-    is_refused("the file without its last byte", bz_read(file, size - 1, chart, BZ_LIMIT * BZ_WIDTH));
+    is_refused("the file without its last byte", bz_read(file, size - 1, chart, ROOM));
     chart[length - 1] = (int16_t)(1 - chart[length - 1]);
     is_refused("the chart with its last mark changed", bz_check(chart, length));
+    is_refused("the second chart joined with it", bz_union(second, second_length, chart, length, joined, ROOM));
     is_refused("a card with a gain of 3", bz_gauge(BZ_BRIDGE, 3.0, 0.0, 5, &pressure, &row));
 }
 
@@ -94,26 +118,35 @@ static void say_answers(size_t length)
     say_sample(length, 5);
 }
 
-int main(int count, char **words)
+// The bytes of a file, and how many there are.
+static size_t load(const char *path, uint8_t *bytes)
 {
-    FILE *input = fopen(count > 1 ? words[1] : "examples/square.chart", "rb");
+    FILE *input = fopen(path, "rb");
     if (input == NULL) {
         perror("rig");
-        return 2;
+        exit(2);
     }
-    size_t size = fread(file, 1, sizeof file, input);
+    size_t size = fread(bytes, 1, BYTES, input);
     fclose(input);
+    return size;
+}
 
-    uint64_t answer = bz_read(file, size, chart, BZ_LIMIT * BZ_WIDTH);
-    if (is_refused("the file", answer))
+int main(int count, char **words)
+{
+    size_t size = load(count > 1 ? words[1] : "examples/square.chart", file);
+    size_t second_size = load(count > 2 ? words[2] : "examples/neighbour.chart", second_file);
+
+    uint64_t answer = bz_read(file, size, chart, ROOM), second_answer = bz_read(second_file, second_size, second, ROOM);
+    if (is_refused("the file", answer) || is_refused("the second file", second_answer))
         return 1;
-    size_t length = bz_value(answer) * BZ_WIDTH;
+    size_t length = bz_value(answer) * BZ_WIDTH, second_length = bz_value(second_answer) * BZ_WIDTH;
     if (is_refused("the chart", bz_check(chart, length)))
         return 1;
     say_records("a sound chart", chart, length);
     if (length == 0)
         return 0;
     say_answers(length);
-    say_refusals(size, length);
+    say_joins(length, second_length);
+    say_refusals(size, length, second_length);
     return 0;
 }

@@ -17,7 +17,7 @@
 // The answer is 64 bits. Every bit that a function's own comment does not name is 0.
 //     bits 0 to 31    a value, the index of a record, or a place in a file                           bz_value
 //     bits 32 to 47   document 01's number of the refusal; 0 where the question is answered          bz_refusal
-//     bits 48 to 55   the chart that a refusal names, where there are two; 0 in all that is here     bz_named_chart
+//     bits 48 to 55   the chart that a refusal names where two are asked about, 1 or 2; else 0       bz_named_chart
 //     bits 56 to 63   a kind                                                                         bz_kind
 // The answer of bz_corner is a run instead, by bz_run_start and bz_run_length.
 #ifndef BERZULKA_H
@@ -30,7 +30,7 @@
 extern "C" {
 #endif
 
-// How many numbers a record has, and how many records a chart may have: what bz_read needs at most.
+// How many numbers a record has, and how many records a chart may have: what bz_read and joining need at most.
 #define BZ_WIDTH 5
 #define BZ_LIMIT 512
 
@@ -68,6 +68,11 @@ enum bz_refusal_number {
     BZ_TOUCHING = 7,            // two segments touch
     BZ_ODD_END = 8,             // an odd number of segments ends at a point
     BZ_WRONG_MARK = 9,          // a mark is not the counted one
+    // of joining two charts, naming neither; 12 and 13 with index 0
+    BZ_CHARTS_TOUCH = 11,       // a segment of one touches a segment of the other (index: first such record of the
+                                // first chart)
+    BZ_RESULT_TOO_LONG = 12,    // the result has more than 512 records
+    BZ_NO_ROOM_FOR_RESULT = 13, // the lent array is shorter than the result
     // of a gauge, with index 0
     BZ_BAD_CARD = 21,           // the card breaks a rule
     BZ_BEYOND_SPRING = 22,      // spring: the sample is negative, or the pressure is at or past the pin
@@ -128,6 +133,9 @@ static inline const char *bz_meaning(unsigned number)
     case BZ_TOUCHING: return "two segments touch";
     case BZ_ODD_END: return "an odd number of segments ends at a point";
     case BZ_WRONG_MARK: return "the mark is not the counted one";
+    case BZ_CHARTS_TOUCH: return "a segment of one chart touches a segment of the other";
+    case BZ_RESULT_TOO_LONG: return "the result has more records than a chart may have";
+    case BZ_NO_ROOM_FOR_RESULT: return "the lent array is shorter than the result";
     case BZ_BAD_CARD: return "the card breaks a rule";
     case BZ_BEYOND_SPRING: return "the sample is negative, or the pressure is at or past the spring's pin";
     case BZ_ROW_OFF_GRID: return "the row would leave the grid";
@@ -162,6 +170,27 @@ uint64_t bz_head(const int16_t *a, size_t a_length, const int16_t *b, size_t b_l
 
 // How large is it? 0, with twice the area in *out; or the refusal and the index, and *out is as it was.
 uint64_t bz_area2(const int16_t *chart, size_t chart_length, int64_t *out);
+
+// ---- joining two charts: each first gives refusals 1 to 9 of the first chart, which name chart 1, then those of the
+// second, which name chart 2, then 11, 12 and 13, which name neither
+//
+// The result has the segments of either chart that bound it, in record order and with marks of its own; segments in
+// line stay as they are. It is a chart again. The answer is how many records were written into out, BZ_WIDTH numbers
+// each, in bits 0 to 31; the numbers beyond them are as they were. Or the refusal, the index and the chart named, and
+// all of out is as it was. No result needs more room than BZ_LIMIT * BZ_WIDTH numbers. The two charts may overlap, or
+// be one array; out overlaps neither.
+
+// What lies in either chart?
+uint64_t bz_union(const int16_t *a, size_t a_length, const int16_t *b, size_t b_length,
+                  int16_t *out, size_t out_length);
+
+// What lies in both?
+uint64_t bz_intersection(const int16_t *a, size_t a_length, const int16_t *b, size_t b_length,
+                         int16_t *out, size_t out_length);
+
+// What lies in the first and not in the second?
+uint64_t bz_difference(const int16_t *a, size_t a_length, const int16_t *b, size_t b_length,
+                       int16_t *out, size_t out_length);
 
 // ---- gauges
 

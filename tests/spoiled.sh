@@ -33,6 +33,7 @@ judge_of() {
     case $1 in
         check-* | point-* | corner-* | area-*) echo charts ;;
         head-*) echo heads ;;
+        join-*) echo joins ;;
         gauge-* | pressure-*) echo gauges ;;
         read-*) echo files ;;
         *) echo all ;;
@@ -53,7 +54,7 @@ fails_by_count() {
 
 unset SPOIL
 things=$(grep -oE 'is_spoiled\("[a-z-]+"' tests/boundary/spoil.c | cut -d '"' -f 2) || exit 1
-build_spoiled && build_both && "$spoiled/rust/release/judge" tape 300 1 > "$scratch/tape" || exit 1
+build_spoiled && build_both && "$spoiled/rust/release/judge" tape 600 1 > "$scratch/tape" || exit 1
 expect 'nothing spoiled, the judge' ask_judge
 expect 'nothing spoiled, the replay' ask_replay
 for thing in $things; do

@@ -1,11 +1,15 @@
 //! A small job of the rig controller in Rust: a chart file is read and checked, points are asked about, a gauge's
-//! sample is turned into a row, and a refusal of each sort is met. examples/rig.c does the same job and prints the
-//! same. From the folder rust/ of the repository:
+//! sample is turned into a row, the chart is joined with a second one, and a refusal of each sort is met.
+//! examples/rig.c does the same job and prints the same. From the folder rust/ of the repository:
 //!
-//!     cargo run --example rig -- ../examples/square.chart
+//!     cargo run --example rig -- ../examples/square.chart ../examples/neighbour.chart
 
-use berzulka::{area2, check, corner, gauge, head, point, read, Card, Head, Refusal, LIMIT, WIDTH};
+use berzulka::{area2, check, corner, difference, gauge, head, intersection, point, read, union};
+use berzulka::{Card, Head, Refusal, LIMIT, WIDTH};
 use std::process::ExitCode;
+
+/// No chart and nothing that is made of two needs more numbers.
+const ROOM: usize = LIMIT * WIDTH;
 
 /// Tells a refusal, where the answer is one; else gives the answer.
 fn answered<T>(what: &str, answer: Result<T, Refusal>) -> Option<T> {
@@ -54,11 +58,28 @@ fn say_sample(chart: &[i16], sample: i16) {
     }
 }
 
-fn say_refusals(file: &[u8], chart: &mut [i16]) {
+/// How many records are made of two charts.
+fn say_joined(what: &str, answer: Result<usize, Refusal>) {
+    if let Some(records) = answered(what, answer) {
+        println!("{what}: {records} records");
+    }
+}
+
+/// What is made of the chart and the second one, the last time into an array without room.
+fn say_joins(chart: &[i16], second: &[i16]) {
+    let mut joined = [0; ROOM];
+    say_joined("union with the second chart", union(chart, second, &mut joined));
+    say_joined("intersection", intersection(chart, second, &mut joined));
+    say_joined("difference", difference(chart, second, &mut joined));
+    say_joined("union without room", union(chart, second, &mut []));
+}
+
+fn say_refusals(file: &[u8], chart: &mut [i16], second: &[i16]) {
     let (last_byte, last_mark) = (file.len() - 1, chart.len() - 1);
     answered("the file without its last byte", read(&file[..last_byte], chart));
     chart[last_mark] = 1 - chart[last_mark];
     answered("the chart with its last mark changed", check(chart));
+    answered("the second chart joined with it", union(second, chart, &mut [0; ROOM]));
     answered("a card with a gain of 3", gauge(Card::Bridge { gain: 3.0, zero: 0.0 }, 5));
 }
 
@@ -77,25 +98,31 @@ fn say_answers(chart: &[i16]) {
     say_sample(chart, 5);
 }
 
-/// The job; nothing where the file or its chart is refused, which is told.
-fn job(file: &[u8]) -> Option<()> {
-    let mut numbers = [0; LIMIT * WIDTH];
+/// The job; nothing where a file or the chart is refused, which is told.
+fn job(file: &[u8], second_file: &[u8]) -> Option<()> {
+    let (mut numbers, mut second) = ([0; ROOM], [0; ROOM]);
     let records = answered("the file", read(file, &mut numbers))?;
-    let chart = &mut numbers[..records * WIDTH];
+    let second_records = answered("the second file", read(second_file, &mut second))?;
+    let (chart, second) = (&mut numbers[..records * WIDTH], &second[..second_records * WIDTH]);
     answered("the chart", check(chart))?;
     say_records("a sound chart", chart);
     if !chart.is_empty() {
         say_answers(chart);
-        say_refusals(file, chart);
+        say_joins(chart, second);
+        say_refusals(file, chart, second);
     }
     Some(())
 }
 
+/// The bytes of the file that a word of the command names.
+fn load(word: usize, otherwise: &str) -> std::io::Result<Vec<u8>> {
+    std::fs::read(std::env::args().nth(word).as_deref().unwrap_or(otherwise))
+}
+
 fn main() -> ExitCode {
-    let path = std::env::args().nth(1).unwrap_or("../examples/square.chart".to_string());
-    match std::fs::read(&path) {
-        Ok(file) => ExitCode::from(job(&file).is_none() as u8),
-        Err(e) => {
+    match (load(1, "../examples/square.chart"), load(2, "../examples/neighbour.chart")) {
+        (Ok(file), Ok(second_file)) => ExitCode::from(job(&file, &second_file).is_none() as u8),
+        (Err(e), _) | (_, Err(e)) => {
             eprintln!("rig: {e}");
             ExitCode::from(2)
         }

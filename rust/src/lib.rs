@@ -41,7 +41,7 @@ use raw::Answer;
 /// How many numbers a record has.
 pub const WIDTH: usize = 5;
 
-/// How many records a chart may have, so that [`read`] needs no more than `LIMIT * WIDTH` numbers.
+/// How many records a chart may have, so that [`read`] and joining need no more than `LIMIT * WIDTH` numbers.
 pub const LIMIT: usize = 512;
 
 // In each `unsafe` below a slice gives a pointer that is valid for its length, and what is lent for writing is a `&mut`
@@ -178,6 +178,90 @@ pub fn area2(chart: &[i16]) -> Result<i64, Refusal> {
     let mut area = 0;
     let answer = Answer(unsafe { raw::bz_area2(chart.as_ptr(), chart.len(), &mut area) });
     answer.answered().map(|_| area)
+}
+
+// ---- joining two charts
+
+/// One of the three functions of the archive.
+type Joining = unsafe extern "C" fn(*const i16, usize, *const i16, usize, *mut i16, usize) -> u64;
+
+/// How many records it writes into `out`.
+fn joined(by: Joining, a: &[i16], b: &[i16], out: &mut [i16]) -> Result<usize, Refusal> {
+    let answer = unsafe { by(a.as_ptr(), a.len(), b.as_ptr(), b.len(), out.as_mut_ptr(), out.len()) };
+    Answer(answer).answered().map(Answer::value)
+}
+
+/// What lies in either chart? How many records were written into `out`, [`WIDTH`] numbers each; what lies beyond them
+/// stays, and all of it where the question is refused. The result is a chart again, and its segments are those of the
+/// two: what is in line is not merged. A refusal 1 to 9 is of the first chart or else of the second, and names it.
+///
+/// ```
+/// use berzulka::{union, LIMIT, WIDTH};
+///
+/// // document 01's square and its neighbour
+/// let square = [
+///     0, 0, 4, 0, 1,  0, 0, 0, 4, 0,  0, 4, 0, 0, 0,  0, 4, 4, 4, 0,
+///     4, 0, 0, 0, 1,  4, 0, 4, 4, 1,  4, 4, 0, 4, 0,  4, 4, 4, 0, 1,
+/// ];
+/// let neighbour = [
+///     4, 0, 8, 0, 1,  4, 0, 4, 4, 0,  4, 4, 4, 0, 0,  4, 4, 8, 4, 0,
+///     8, 0, 4, 0, 1,  8, 0, 8, 4, 1,  8, 4, 4, 4, 0,  8, 4, 8, 0, 1,
+/// ];
+/// let mut out = [0; LIMIT * WIDTH];
+/// assert_eq!(union(&square, &neighbour, &mut out), Ok(12)); // the side between them is gone
+/// assert!(berzulka::check(&out[..12 * WIDTH]).is_ok());
+/// assert_eq!(union(&square, &neighbour, &mut out[..59]).unwrap_err().number(), 13);
+/// let refusal = union(&square, &neighbour[..35], &mut out).unwrap_err();
+/// assert_eq!((refusal.number(), refusal.index(), refusal.chart()), (6, 5, 2));
+/// ```
+pub fn union(a: &[i16], b: &[i16], out: &mut [i16]) -> Result<usize, Refusal> {
+    joined(raw::bz_union, a, b, out)
+}
+
+/// What lies in both charts? As [`union`] answers.
+///
+/// ```
+/// // a square, and a triangle in it that stands on its lower side
+/// let square = [
+///     0, 0, 4, 0, 1,  0, 0, 0, 4, 0,  0, 4, 0, 0, 0,  0, 4, 4, 4, 0,
+///     4, 0, 0, 0, 1,  4, 0, 4, 4, 1,  4, 4, 0, 4, 0,  4, 4, 4, 0, 1,
+/// ];
+/// let triangle = [
+///     0, 0, 4, 0, 1,  0, 0, 2, 2, 0,  2, 2, 0, 0, 0,
+///     2, 2, 4, 0, 0,  4, 0, 2, 2, 0,  4, 0, 0, 0, 1,
+/// ];
+/// let mut out = [7; 31];
+/// assert_eq!(berzulka::intersection(&square, &triangle, &mut out), Ok(6));
+/// assert_eq!(out[..30], triangle);
+/// assert_eq!(out[30], 7);
+/// assert_eq!(berzulka::intersection(&square, &[], &mut []), Ok(0));
+/// ```
+pub fn intersection(a: &[i16], b: &[i16], out: &mut [i16]) -> Result<usize, Refusal> {
+    joined(raw::bz_intersection, a, b, out)
+}
+
+/// What lies in the first chart and not in the second? As [`union`] answers.
+///
+/// ```
+/// let triangle = [
+///     0, 0, 4, 0, 1,  0, 0, 2, 2, 0,  2, 2, 0, 0, 0,
+///     2, 2, 4, 0, 0,  4, 0, 2, 2, 0,  4, 0, 0, 0, 1,
+/// ];
+/// let mut out = [7; 30];
+/// assert_eq!(berzulka::difference(&triangle, &triangle, &mut out), Ok(0));
+/// assert_eq!(out, [7; 30]);
+/// assert_eq!(berzulka::difference(&triangle, &[], &mut out), Ok(6));
+/// assert_eq!(out, triangle);
+/// // another, with a corner on its left side
+/// let touching = [
+///     1, 1, 2, 4, 1,  1, 1, 1, 4, 0,  1, 4, 1, 1, 0,
+///     1, 4, 2, 4, 0,  2, 4, 1, 4, 0,  2, 4, 1, 1, 1,
+/// ];
+/// let refusal = berzulka::difference(&triangle, &touching, &mut out).unwrap_err();
+/// assert_eq!((refusal.number(), refusal.index(), refusal.chart()), (11, 1, 0));
+/// ```
+pub fn difference(a: &[i16], b: &[i16], out: &mut [i16]) -> Result<usize, Refusal> {
+    joined(raw::bz_difference, a, b, out)
 }
 
 // ---- gauges

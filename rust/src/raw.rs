@@ -20,6 +20,29 @@ extern "C" {
     /// How large is it? The refusal and the index; or 0, with twice the area in `out`.
     pub fn bz_area2(chart: *const i16, chart_len: usize, out: *mut i64) -> u64;
 
+    /// What lies in either chart? How many records were written; or the refusal, the index and the chart named.
+    pub fn bz_union(a: *const i16, a_len: usize, b: *const i16, b_len: usize, out: *mut i16, out_len: usize) -> u64;
+
+    /// What lies in both charts? As `bz_union` answers.
+    pub fn bz_intersection(
+        a: *const i16,
+        a_len: usize,
+        b: *const i16,
+        b_len: usize,
+        out: *mut i16,
+        out_len: usize,
+    ) -> u64;
+
+    /// What lies in the first chart and not in the second? As `bz_union` answers.
+    pub fn bz_difference(
+        a: *const i16,
+        a_len: usize,
+        b: *const i16,
+        b_len: usize,
+        out: *mut i16,
+        out_len: usize,
+    ) -> u64;
+
     /// What does the sample read? Kind 0 is a spring (rate, pin), 1 a bridge (gain, zero). The refusal, or 0; pressure
     /// and row are always written.
     pub fn bz_gauge(kind: u8, first: f64, second: f64, sample: i16, pressure: *mut f64, row: *mut i16) -> u64;
@@ -38,11 +61,12 @@ impl Answer {
         self.0 as u32 as usize
     }
 
-    /// Bits 32 to 47: the number of the refusal, 0 where the question is answered.
+    /// Bits 32 to 47: the number of the refusal, 0 where the question is answered. Bits 48 to 55: the chart that the
+    /// refusal names, 0 where it names none.
     pub fn answered(self) -> Result<Answer, Refusal> {
         match (self.0 >> 32) as u16 {
             0 => Ok(self),
-            number => Err(Refusal { number, index: self.value() }),
+            number => Err(Refusal { number, index: self.value(), chart: (self.0 >> 48) as u8 }),
         }
     }
 

@@ -53,6 +53,12 @@ refusals! {
         "an odd number of segments ends at a point";
     9 WrongMark: "a mark is not the counted one",
         "the mark is not the counted one";
+    11 ChartsTouch: "a segment of one touches a segment of the other (index: first such record of the first chart)",
+        "a segment of one chart touches a segment of the other";
+    12 ResultTooLong: "the result has more than 512 records",
+        "the result has more records than a chart may have";
+    13 NoRoomForResult: "the lent array is shorter than the result",
+        "the lent array is shorter than the result";
     21 BadCard: "the card breaks a rule",
         "the card breaks a rule";
     22 BeyondSpring: "spring: the sample is negative, or the pressure is at or past the pin",
@@ -73,20 +79,26 @@ refusals! {
         "the lent array is too short for the count";
 }
 
-/// A question that is refused: document 01's number, and the record or the place that it names.
+/// A question that is refused: document 01's number, the record or the place that it names, and the chart where two
+/// were asked about.
 ///
 /// ```
-/// use berzulka::{check, Reason};
+/// use berzulka::{check, union, Reason};
 ///
 /// let refusal = check(&[0; 6]).unwrap_err();
-/// assert_eq!((refusal.number(), refusal.index()), (1, 0));
+/// assert_eq!((refusal.number(), refusal.index(), refusal.chart()), (1, 0, 0));
 /// assert_eq!(refusal.reason(), Reason::BadLength);
 /// assert_eq!(refusal.to_string(), "refused 1 at 0: the length is no whole number of records");
+///
+/// let refusal = union(&[], &[0; 6], &mut []).unwrap_err();
+/// assert_eq!((refusal.number(), refusal.index(), refusal.chart()), (1, 0, 2));
+/// assert_eq!(refusal.to_string(), "refused 1 at 0 of chart 2: the length is no whole number of records");
 /// ```
 #[derive(Clone, Copy, PartialEq, Eq, Hash, Debug)]
 pub struct Refusal {
     pub(crate) number: u16,
     pub(crate) index: usize,
+    pub(crate) chart: u8,
 }
 
 impl Refusal {
@@ -100,6 +112,11 @@ impl Refusal {
         self.index
     }
 
+    /// The chart that it names where two were asked about, 1 the first and 2 the second; 0 where it names none.
+    pub fn chart(&self) -> u8 {
+        self.chart
+    }
+
     /// What the number is given for.
     pub fn reason(&self) -> Reason {
         Reason::of(self.number)
@@ -108,7 +125,11 @@ impl Refusal {
 
 impl Display for Refusal {
     fn fmt(&self, f: &mut Formatter) -> fmt::Result {
-        write!(f, "refused {} at {}: {}", self.number, self.index, self.reason())
+        write!(f, "refused {} at {}", self.number, self.index)?;
+        if self.chart != 0 {
+            write!(f, " of chart {}", self.chart)?;
+        }
+        write!(f, ": {}", self.reason())
     }
 }
 
@@ -120,14 +141,14 @@ mod tests {
 
     #[test]
     fn every_number_is_listed() {
-        let is_listed = |number| Refusal { number, index: 0 }.reason() != Reason::Unlisted;
+        let is_listed = |number| Refusal { number, index: 0, chart: 0 }.reason() != Reason::Unlisted;
         let listed: Vec<u16> = (0..=u16::MAX).filter(|&number| is_listed(number)).collect();
-        assert_eq!(listed, [1, 2, 3, 4, 5, 6, 7, 8, 9, 21, 22, 23, 31, 32, 33, 34, 35, 36]);
+        assert_eq!(listed, [1, 2, 3, 4, 5, 6, 7, 8, 9, 11, 12, 13, 21, 22, 23, 31, 32, 33, 34, 35, 36]);
     }
 
     #[test]
     fn a_number_that_is_not_listed_is_a_refusal() {
-        let refusal = Refusal { number: 99, index: 3 };
+        let refusal = Refusal { number: 99, index: 3, chart: 0 };
         assert_eq!(refusal.to_string(), "refused 99 at 3: no refusal has this number");
     }
 }

@@ -1,6 +1,6 @@
 //! The wrapper on document 01's bench examples: each question once answered and once refused, and what a refusal says.
 
-use berzulka::{area2, check, corner, gauge, head, point, read};
+use berzulka::{area2, check, corner, difference, gauge, head, intersection, point, read, union};
 use berzulka::{Card, Head, Place, Reading, Reason, Refusal, LIMIT, WIDTH};
 
 /// Document 01's square with corners (0,0) and (4,4), and its file.
@@ -10,11 +10,22 @@ const SQUARE: [i16; 40] = [
 ];
 const FILE: &[u8] = include_bytes!("../../examples/square.chart");
 
+/// Its neighbour, with corners (4,0) and (8,4).
+const NEIGHBOUR: [i16; 40] = [
+    4, 0, 8, 0, 1, 4, 0, 4, 4, 0, 4, 4, 4, 0, 0, 4, 4, 8, 4, 0, //
+    8, 0, 4, 0, 1, 8, 0, 8, 4, 1, 8, 4, 4, 4, 0, 8, 4, 8, 0, 1,
+];
+
 /// The square with other numbers at some places.
 fn changed(places: &[usize], number: i16) -> [i16; 40] {
     let mut numbers = SQUARE;
     places.iter().for_each(|&at| numbers[at] = number);
     numbers
+}
+
+/// The records of a chart, so far across and up from where they were.
+fn moved(chart: &[i16], x: i16, y: i16) -> Vec<i16> {
+    chart.chunks(WIDTH).flat_map(|r| [r[0] + x, r[1] + y, r[2] + x, r[3] + y, r[4]]).collect()
 }
 
 /// The number and the index of a refusal.
@@ -69,6 +80,40 @@ fn areas_are_doubled() {
 }
 
 #[test]
+fn charts_are_joined() {
+    let mut out = [7; 62];
+    assert_eq!(union(&SQUARE, &NEIGHBOUR, &mut out), Ok(12));
+    assert_eq!(area2(&out[..60]), Ok(64));
+    assert_eq!(out[60..], [7, 7]);
+    assert_eq!(intersection(&SQUARE, &NEIGHBOUR, &mut []), Ok(0));
+    assert_eq!(difference(&SQUARE, &NEIGHBOUR, &mut out), Ok(8));
+    assert_eq!(out[..40], SQUARE);
+    assert_eq!(difference(&NEIGHBOUR, &SQUARE, &mut out), Ok(8));
+    assert_eq!(out[..40], NEIGHBOUR);
+    // one array as both charts
+    assert_eq!(union(&SQUARE, &SQUARE, &mut out), Ok(8));
+    assert_eq!(out[..40], SQUARE);
+    assert_eq!(difference(&SQUARE, &SQUARE, &mut []), Ok(0));
+}
+
+#[test]
+fn a_refused_joining_leaves_the_array() {
+    let named = |answer: Result<usize, Refusal>| {
+        let refusal = answer.expect_err("this is refused");
+        (refusal.number(), refusal.index(), refusal.chart())
+    };
+    // as many squares as a chart may have
+    let row = |y| (0..64).flat_map(|i| moved(&SQUARE, 5 * i, y)).collect::<Vec<i16>>();
+    let mut out = [7; 62];
+    assert_eq!(named(union(&changed(&[39], 0), &[0; 6], &mut out)), (6, 5, 1));
+    assert_eq!(named(intersection(&SQUARE, &changed(&[39], 0), &mut out)), (6, 5, 2));
+    assert_eq!(named(difference(&SQUARE, &moved(&NEIGHBOUR, 0, 2), &mut out)), (11, 3, 0));
+    assert_eq!(named(union(&row(0), &row(5), &mut out)), (12, 0, 0));
+    assert_eq!(named(union(&SQUARE, &NEIGHBOUR, &mut out[..59])), (13, 0, 0));
+    assert_eq!(out, [7; 62]);
+}
+
+#[test]
 fn samples_are_read() {
     let bridge = |gain, zero| Card::Bridge { gain, zero };
     let spring = Card::Spring { rate: 1.0, pin: 1000.0 };
@@ -107,6 +152,9 @@ fn a_refusal_says_what_is_wrong() {
     let refusal = check(&changed(&[39], 0)).unwrap_err();
     assert_eq!(refusal.reason(), Reason::NoOtherHalf);
     assert_eq!(refusal.to_string(), "refused 6 at 5: the other half, ends swapped and same mark, is missing");
+    let refusal = union(&[], &changed(&[4, 24], 0), &mut []).unwrap_err();
+    assert_eq!(refusal.reason(), Reason::WrongMark);
+    assert_eq!(refusal.to_string(), "refused 9 at 0 of chart 2: the mark is not the counted one");
     let refusal = read(&FILE[..40], &mut [0; 40]).unwrap_err();
     assert_eq!(refusal.reason(), Reason::CutShort);
     assert_eq!(refusal.to_string(), "refused 31 at 40: the bytes end inside a number or before it");

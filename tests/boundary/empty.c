@@ -20,6 +20,8 @@ static void want(const char *question, uint64_t by_null, uint64_t by_array, unsi
 int main(void)
 {
     int16_t record[BZ_WIDTH] = {0, 0, 4, 0, 1}, out[BZ_WIDTH];
+    const int16_t sliver[] = {0, 0, 2, 1, 1, 0, 0, 1, 1, 0, 1, 1, 0, 0, 0, 1, 1, 2, 1, 0, 2, 1, 1, 1, 0, 2, 1, 0, 0, 1};
+    const size_t length = sizeof sliver / sizeof sliver[0];
     const uint8_t none[] = {0}, one[] = {1, 0, 0, 8, 0, 1};
     int64_t area = 7, other = 7;
 
@@ -31,6 +33,13 @@ int main(void)
     want("head", bz_head(record, 5, NULL, 0), bz_head(record, 5, record, 0), BZ_FIRST, 0);
     want("area2", bz_area2(NULL, 0, &area), bz_area2(record, 0, &other), 0, 0);
     want("area2's area", (uint64_t)area, (uint64_t)other, 0, 0);
+    want("union", bz_union(NULL, 0, NULL, 0, NULL, 0), bz_union(record, 0, record, 0, out, 0), 0, 0);
+    want("intersection with nothing", bz_intersection(sliver, length, NULL, 0, NULL, 0),
+         bz_intersection(sliver, length, record, 0, out, 0), 0, 0);
+    want("difference from nothing", bz_difference(NULL, 0, sliver, length, NULL, 0),
+         bz_difference(record, 0, sliver, length, out, 0), 0, 0);
+    want("union into nothing", bz_union(NULL, 0, sliver, length, NULL, 0), bz_union(record, 0, sliver, length, out, 0),
+         0, BZ_NO_ROOM_FOR_RESULT);
     want("read from nothing", bz_read(NULL, 0, out, 5), bz_read(one, 0, out, 5), 0, BZ_CUT_SHORT);
     want("read into nothing", bz_read(none, 1, NULL, 0), bz_read(none, 1, out, 0), 0, 0);
     want("read into too little", bz_read(one, 6, NULL, 0), bz_read(one, 6, out, 0), 0, BZ_ARRAY_TOO_SHORT);

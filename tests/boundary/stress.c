@@ -15,7 +15,8 @@
 // The tape is written by the judge of rust/judge: entries one after another, numbers with their lowest byte first.
 //     letter u8, kind u8, x i16, y i16, first u64, second u64, n1 u32, n2 u32, lent u32 (sizes in bytes)
 //     n1 bytes of the first array, n2 of the second, what is lent before, what it must hold after, the answer u64
-// The first array is a chart, or a file's bytes. A gauge's sample is x, and first and second are its floats' bits.
+// The first array is a chart, or a file's bytes, and the second another chart. A gauge's sample is x, and first and
+// second are its floats' bits.
 #define _DEFAULT_SOURCE
 #include "berzulka.h"
 
@@ -62,6 +63,9 @@ static const struct question questions[] = {
     {'r', "corner", 2, 0, 0, false},
     {'h', "head", 2, 2, 0, false},
     {'a', "area2", 2, 0, sizeof(int64_t), false},
+    {'u', "union", 2, 2, 2, true},
+    {'i', "intersection", 2, 2, 2, true},
+    {'d', "difference", 2, 2, 2, true},
     {'g', "gauge", 0, 0, PRESSURE + ROW, false},
     {'f', "read", 1, 0, 2, true},
 };
@@ -269,15 +273,18 @@ static uint64_t answer_to(const struct entry *e)
 {
     const int16_t *chart = (const void *)parts[FIRST].array, *other = (const void *)parts[SECOND].array;
     void *lent = parts[LENT].array, *lent_row = parts[LENT_ROW].array;
-    size_t n = e->n1 / sizeof *chart;
+    size_t n = e->n1 / sizeof *chart, m = e->n2 / sizeof *other, room = e->lent / sizeof(int16_t);
     switch (e->asked->letter) {
     case 'c': return bz_check(chart, n);
     case 'p': return bz_point(chart, n, e->x, e->y);
     case 'r': return bz_corner(chart, n, e->x, e->y);
-    case 'h': return bz_head(chart, n, other, e->n2 / sizeof *other);
+    case 'h': return bz_head(chart, n, other, m);
     case 'a': return bz_area2(chart, n, lent);
+    case 'u': return bz_union(chart, n, other, m, lent, room);
+    case 'i': return bz_intersection(chart, n, other, m, lent, room);
+    case 'd': return bz_difference(chart, n, other, m, lent, room);
     case 'g': return bz_gauge(e->kind, e->first, e->second, e->x, lent, lent_row);
-    default: return bz_read(parts[FIRST].array, e->n1, lent, e->lent / sizeof(int16_t));
+    default: return bz_read(parts[FIRST].array, e->n1, lent, room);
     }
 }
 

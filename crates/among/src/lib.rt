@@ -4,11 +4,12 @@ ghost use mathlib.Core.Path.{_≡_};
 ghost use Prim.Native.Nat.{_+_, _*_, _≤_, _<_};
 ghost use lib.ListN.{length};
 ghost use Rattle.counts.specs.Scan.{Found, Counted};
+ghost use Rattle.plane.specs.Points.{isSegment};
 ghost use Rattle.plane.specs.Touching.{touches};
 ghost use Rattle.plane.specs.Columns.{endsAt, countedFor};
 ghost use Rattle.record.specs.Records.{width, recordAt, records};
 ghost use Rattle.segment.specs.Segments.{ofSegment, isRecord};
-ghost use Rattle.among.specs.Among.{has, touched, endCount, countedMark};
+ghost use Rattle.among.specs.Among.{has, hasSegment, touched, endCount, countedMark};
 use plane::Point;
 use plane::Segment;
 use record::Record;
@@ -38,6 +39,37 @@ pub fn has_record(s: &[i16], e: Record) -> bool
 {
     let n = s.len() / WIDTH;
     first_same(s, n, e) < n
+}
+
+// ---- a segment
+
+fn is_same_half(t: Segment, e: Record) -> bool
+    ensures { λ b. ⌜ b ≡ ofSegment (isSegment t) e ⌝ }
+{
+    record::is_left(e) && segment::is_segment(t, segment::segment_of(e))
+}
+
+fn first_same_half(s: &[i16], n: usize, t: Segment) -> usize
+    requires { ⌜ width * n ≤ length (now s) ⌝ }
+    ensures { λ r. ⌜ Found (ofSegment (isSegment t)) (recordAt (now (s .entry))) 0 n r ⌝ }
+{
+    let mut i = 0;
+    while i < n {
+        let e = record_at(s, i);
+        if is_same_half(t, e) {
+            return i;
+        }
+        i += 1;
+    }
+    n
+}
+
+// Whether the segment is there, whatever its mark.
+pub fn has_segment(s: &[i16], t: Segment) -> bool
+    ensures { λ b. ⌜ b ≡ hasSegment (records (now (s .entry))) t ⌝ }
+{
+    let n = s.len() / WIDTH;
+    first_same_half(s, n, t) < n
 }
 
 // ---- a segment that touches

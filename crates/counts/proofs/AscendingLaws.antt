@@ -4,19 +4,23 @@
 --     ascending       the first gives the second, for a transitive order
 --     rising          the same by places: f 0 .. f (n - 1), where the order is transitive on them
 --     listed-ascending     what rises by places is an ascending list
+--     ascending-map        so is one taken through a function that keeps the order
+--     ascending-at         an ascending list rises by places
 --     single          in an ascending list a member occurs once
---     once            so does the image of each member, where the list is closed under f (what `involution` asks)
+--     once            so does the image of each member, where the list is closed under f
 -- Assumes nothing.
-use mathlib.Core.Path.{_≡_, sym, ap, _∙_, subst}
+use mathlib.Core.Path.{_≡_, refl, sym, ap, _∙_, subst}
 use mathlib.Core.Logic.{_⊎_, inl, inr}
 use mathlib.Core.Bool.{Bool, true, false}
-use mathlib.Core.List.{List, [], _∷_, List·Memᴰ·not-nil, List·Memᴰ·cases-cons}
+use mathlib.Core.List.{List, [], _∷_, map, List·Memᴰ·head, List·Memᴰ·tail, List·Memᴰ·not-nil, List·Memᴰ·cases-cons}
 use Prim.Native.Nat.{ℕ, zero, suc, _+_, _<_, _≤_}
 use native.Mathlib.Nat.{eq-or-lt-of-le}
 use native.Mathlib.Omega.{arith}
+use lib.ListN.{length, getD}
 use Rattle.counts.specs.Count.{_∈_, ind, sum, count, listed}
 use Rattle.counts.proofs.TestLaws.{is-false}
 use Rattle.counts.proofs.CountLaws.{count-off, count-some}
+use Rattle.counts.proofs.MapLaws.{map-mem}
 use Rattle.counts.proofs.ListedLaws.{listed-mem}
 
 module _ {A : Type 0} (lt : A → A → Type 0) where
@@ -66,6 +70,26 @@ module _ {A : Type 0} (lt : A → A → Type 0) where
         first y m =
             let r = listed-mem f (suc a) k y m in
             rw (r .3) (h a (r .0) (omega arith) (omega arith) (omega arith))
+
+  pub ascending-map : (f : A → A) → ((x y : A) → lt x y → lt (f x) (f y)) → (xs : List A) → Ascending xs
+      → Ascending (map f xs)
+  ascending-map f keeps [] a = tt
+  ascending-map f keeps (x ∷ xs) a = (
+    (λ y m. let w = map-mem f xs y m in subst (lt (f x)) (sym (w .2)) (keeps x (w .0) (a .0 (w .0) (w .1)))),
+    ascending-map f keeps xs (a .1),
+  )
+
+  getD-mem : (xs : List A) (i : ℕ) (d : A) → i < length xs → getD xs i d ∈ xs
+  getD-mem [] i d h = absurd (omega arith)
+  getD-mem (x ∷ xs) zero d h = List·Memᴰ·head refl
+  getD-mem (x ∷ xs) (suc i) d h = List·Memᴰ·tail (getD-mem xs i d (omega arith))
+
+  pub ascending-at : (d : A) (xs : List A) → Ascending xs → (i j : ℕ) → i < j → j < length xs
+      → lt (getD xs i d) (getD xs j d)
+  ascending-at d [] a i j l h = absurd (omega arith)
+  ascending-at d (x ∷ xs) a i zero l h = absurd (omega arith)
+  ascending-at d (x ∷ xs) a zero (suc j) l h = a .0 (getD xs j d) (getD-mem xs j d (omega arith))
+  ascending-at d (x ∷ xs) a (suc i) (suc j) l h = ascending-at d xs (a .1) i j (omega arith) (omega arith)
 
   module _ (irrefl : (x : A) → lt x x → ⊥) (same : A → A → Bool) (same-true : (x y : A) → same x y ≡ true → x ≡ y) where
     ind-le : (b : Bool) → ind b ≤ 1

@@ -2,11 +2,12 @@
 --     count-ext, count-off, count-some, count-le       by the members
 --     count-append, count-split, count-most            of two lists, of one cut at an index,
 --                                                      and no more than the length
---     count-keep, any-keep, keep-mem, mem-keep         counts under a filter
+--     count-keep, count-keep-le, any-keep, keep-mem, mem-keep    counts under a filter
 --     all-is, any-is                                   the tests are what they say
+--     count-any                                        where at most one passes, the number is whether one does
 -- Assumes nothing.
 use mathlib.Core.Path.{_≡_, refl, sym, ap, _∙_}
-use mathlib.Core.Logic.{_⊎_, inl, inr, _↔_}
+use mathlib.Core.Logic.{_⊎_, inl, inr, _↔_, ⊎-elim}
 use mathlib.Core.Bool.{Bool, true, false, _&&_, _||_, cond, true≢false}
 use mathlib.Core.List.{List, [], _∷_, _++_}
 use mathlib.Core.List.{List·Memᴰ·head, List·Memᴰ·tail, List·Memᴰ·not-nil, List·Memᴰ·cases-cons}
@@ -14,7 +15,7 @@ use Prim.Native.Nat.{ℕ, _+_, _<_, _≤_}
 use lib.ListN.{length, take, drop, take-append-drop}
 use native.Mathlib.Omega.{arith}
 use Rattle.counts.specs.Count.{_∈_, ind, sum, count, keep, all, any}
-use Rattle.counts.proofs.TestLaws.{and-true}
+use Rattle.counts.proofs.TestLaws.{and-true, lt-or-le}
 use Rattle.counts.proofs.SumLaws.{sum-ext, sum-le, sum-zero, sum-append}
 
 module _ {A : Type 0} where
@@ -68,6 +69,10 @@ module _ {A : Type 0} where
           → count q (cond a (x ∷ keep p xs) (keep p xs)) ≡ ind (a && q x) + count (λ y. p y && q y) xs
       go true ih = ap (λ n. ind (q x) + n) ih
       go false ih = omega arith
+
+  pub count-keep-le : (p q : A → Bool) (xs : List A) → count q (keep p xs) ≤ count q xs
+  count-keep-le p q xs =
+      omega (arith, count-keep p q xs, count-le (λ x. p x && q x) q xs (λ x m t. and-true (p x) (q x) t .1))
 
   pub any-keep : (p q : A → Bool) (xs : List A) → any q (keep p xs) ≡ any (λ x. p x && q x) xs
   unfolding any keep
@@ -134,3 +139,10 @@ module _ {A : Type 0} where
       go : (b : Bool) → (any p ys ≡ true) ↔ (0 < count p ys) → (b || any p ys ≡ true) ↔ (0 < ind b + count p ys)
       go true ih = ((λ e. omega arith), (λ h. refl))
       go false ih = ((λ e. omega (arith, ih .0 e)), (λ h. ih .1 (omega arith)))
+
+  pub count-any : (p : A → Bool) (xs : List A) → count p xs ≤ 1 → count p xs ≡ ind (any p xs)
+  count-any p xs most = go (any p xs) (any-is p xs)
+    where
+      go : (b : Bool) → (b ≡ true) ↔ (0 < count p xs) → count p xs ≡ ind b
+      go true h = omega (arith, h .0 refl)
+      go false h = ⊎-elim (λ l. absurd (true≢false (sym (h .1 l)))) (λ l. omega arith) (lt-or-le 0 (count p xs))

@@ -1,13 +1,12 @@
--- Counting by fibres, and along an involution.
+-- Counting by fibres, and over two lists by the pairs that match.
 --     even-mul       a multiple of an even number is even
 --     even-fibres    where every point has an even number of the members over it, an even number lie over any set
 --                    of points
---     involution     a sum over a list in which the image of each member under f, its own inverse, occurs once, may be
---                    taken at the images instead (`once` of AscendingLaws.antt gets that from a list in strict order
---                    that is closed under f)
+--     matched        where what matches weighs the same, the members of two lists have one weight together, each as
+--                    often as it is matched in the other list
 -- Assumes nothing.
 use mathlib.Core.Path.{_≡_, refl, sym, ap, _∙_}
-use mathlib.Core.Bool.{Bool, true, false, _&&_, _||_, not, true≢false}
+use mathlib.Core.Bool.{Bool, true, false, _&&_, _||_, not}
 use mathlib.Core.List.{List, [], _∷_, map, List·Memᴰ·head, List·Memᴰ·tail}
 use Prim.Native.Nat.{ℕ, _+_, _*_, _/_}
 use native.Mathlib.Omega.{arith}
@@ -72,32 +71,20 @@ module _ {P : Type 0} (same : P → P → Bool) where
         rw (sum-ext (λ r. ind (t (over r))) (λ r. ind (among (map over xs) (over r) && t (over r))) xs
         (λ r m. ap (λ b. ind (b && t (over r))) (sym (among-map xs r m)))) (even-among (map over xs))
 
--- ---- an involution
+-- ---- two lists
 
-module _ {A : Type 0} (same : A → A → Bool) (same-true : (x y : A) → same x y ≡ true → x ≡ y)
-    (same-refl : (x : A) → same x x ≡ true) (f : A → A) (back : (x : A) → f (f x) ≡ x) (xs : List A)
-    (once : (x : A) → x ∈ xs → count (λ y. same y (f x)) xs ≡ 1) (p : A → ℕ) where
-  turn : (x y : A) → same y (f x) ≡ true → same x (f y) ≡ true
-  turn x y e = rw (same-true y (f x) e, back) (same-refl x)
-
-  pair : (x y : A) → p x * ind (same y (f x)) ≡ p (f y) * ind (same x (f y))
-  pair x y = go (same y (f x)) (same x (f y)) refl refl
+module _ {A B : Type 0} (match : A → B → Bool) (p : A → ℕ) (w : B → ℕ)
+    (agree : (x : A) (y : B) → match x y ≡ true → p x ≡ w y) where
+  pair : (x : A) (y : B) → p x * ind (match x y) ≡ w y * ind (match x y)
+  pair x y = go (match x y) refl
     where
-      go : (s t : Bool) → same y (f x) ≡ s → same x (f y) ≡ t → p x * ind s ≡ p (f y) * ind t
-      go true true e g = ap (λ z. p z * 1) (same-true x (f y) g)
-      go true false e g = absurd (true≢false (sym (turn x y e) ∙ g))
-      go false true e g = absurd (true≢false (sym (turn y x g) ∙ e))
-      go false false e g = omega arith
+      go : (b : Bool) → match x y ≡ b → p x * ind b ≡ w y * ind b
+      go true e = ap (λ n. n * 1) (agree x y e)
+      go false e = omega arith
 
-  -- each member weighed with its image, which is there once
-  weigh : (w : A → ℕ) → sum w xs ≡ sum (λ x. sum (λ y. w x * ind (same y (f x))) xs) xs
-  weigh w =
-      sum-ext _ _ xs
-      (λ x m. sym (sum-mul (w x) (λ y. ind (same y (f x))) xs ∙ ap (λ n. w x * n) (once x m) ∙ omega arith))
-
-  pub involution : sum p xs ≡ sum (λ x. p (f x)) xs
-  involution =
-      weigh p
-      ∙ sum-swap (λ x y. p x * ind (same y (f x))) xs xs
-      ∙ sum-ext _ _ xs (λ y m. sum-ext _ _ xs (λ x n. pair x y))
-      ∙ sym (weigh (λ y. p (f y)))
+  pub matched : (xs : List A) (ys : List B)
+      → sum (λ x. p x * count (λ y. match x y) ys) xs ≡ sum (λ y. w y * count (λ x. match x y) xs) ys
+  matched xs ys =
+      sum-ext _ _ xs (λ x m. sym (sum-mul (p x) (λ y. ind (match x y)) ys) ∙ sum-ext _ _ ys (λ y k. pair x y))
+      ∙ sum-swap (λ x y. w y * ind (match x y)) xs ys
+      ∙ sum-ext _ _ ys (λ y m. sum-mul (w y) (λ x. ind (match x y)) xs)

@@ -1,12 +1,14 @@
 pub mod TestLaws
 pub mod SumLaws
 pub mod CountLaws
+pub mod KeepLaws
 pub mod MapLaws
 pub mod ParityLaws
 pub mod FirstLaws
 pub mod ListedLaws
 pub mod FibreLaws
 pub mod HighestLaws
+pub mod TallyLaws
 pub mod AscendingLaws
 pub mod TelescopeLaws
 pub mod ScanLaws

@@ -2,8 +2,9 @@
 --     count-map            what is counted of the images is counted of the members
 --     any-map              some image passes exactly if some member's does
 --     map-mem, mem-map     the members of such a list are the images
+--     map-ext              two functions that agree on the members give one list
 -- Assumes nothing.
-use mathlib.Core.Path.{_≡_, refl, ap}
+use mathlib.Core.Path.{_≡_, refl, ap, ap₂}
 use mathlib.Core.Logic.{_⊎_, inl, inr}
 use mathlib.Core.Bool.{Bool, _||_}
 use mathlib.Core.List.{List, [], _∷_, map}
@@ -34,3 +35,8 @@ module _ {A B : Type 0} (f : A → B) where
   pub mem-map : (xs : List A) (x : A) → x ∈ xs → f x ∈ map f xs
   mem-map (y ∷ ys) x (List·Memᴰ·head e) = List·Memᴰ·head (ap f e)
   mem-map (y ∷ ys) x (List·Memᴰ·tail m) = List·Memᴰ·tail (mem-map ys x m)
+
+pub map-ext : {A B : Type 0} (v w : A → B) (xs : List A) → ((x : A) → x ∈ xs → v x ≡ w x) → map v xs ≡ map w xs
+map-ext v w [] h = refl
+map-ext v w (x ∷ xs) h =
+    ap₂ _∷_ (h x (List·Memᴰ·head refl)) (map-ext v w xs (λ y m. h y (List·Memᴰ·tail m)))

@@ -12,10 +12,10 @@ use mathlib.Core.List.{List}
 use Prim.Native.Nat.{ℕ, _+_, _%_, _≤_}
 use native.Mathlib.Omega.{arith}
 use lib.Dec.{eqb}
-use borrow.Author.Tests.{eqb-true, eqb-false, eq-eqb, ne-eqb}
+use borrow.Author.Tests.{eqb-false, eq-eqb, ne-eqb}
 use Rattle.counts.specs.Count.{ind, count, any, odd, Even, _⊕_}
-use Rattle.counts.proofs.TestLaws.{tests, same-test}
-use Rattle.counts.proofs.CountLaws.{any-is}
+use Rattle.counts.proofs.TestLaws.{tests}
+use Rattle.counts.proofs.CountLaws.{count-any}
 
 pub odd-plus : (m n : ℕ) → odd (m + n) ≡ odd m ⊕ odd n
 odd-plus m n = go (eqb (m % 2) 1) (eqb (n % 2) 1) refl refl
@@ -51,10 +51,7 @@ pub odd-off : (n : ℕ) → (odd n ≡ false) ↔ Even n
 odd-off n = ((λ e. omega (arith, eqb-false (n % 2) 1 e)), (λ e. ne-eqb (n % 2) 1 (omega arith)))
 
 pub odd-any : {A : Type 0} (p : A → Bool) (xs : List A) → count p xs ≤ 1 → odd (count p xs) ≡ any p xs
-odd-any p xs most =
-    same-test (odd (count p xs)) (any p xs)
-    (λ e. let one : count p xs % 2 ≡ 1 = eqb-true _ _ e in any-is p xs .1 (omega arith))
-    (λ e. let some = any-is p xs .0 e in eq-eqb (count p xs % 2) 1 (omega arith))
+odd-any p xs most = ap odd (count-any p xs most) ∙ odd-ind (any p xs)
 
 pub even-parities : (m n k : ℕ) → Even (m + n + k) → (odd m ⊕ odd k ≡ odd n) × (odd m ⊕ odd n ≡ odd k)
 even-parities m n k e = (

@@ -5,6 +5,8 @@ mod gauges;
 use area::Area;
 use chart::Refusal;
 use chart::Verdict;
+use join::Joined;
+use join::Op;
 use nearest::Nearest;
 use question::Place;
 
@@ -12,6 +14,7 @@ fn main() {
     about_square(&square());
     about_changed_square();
     about_hole(&square_with_hole());
+    about_neighbours(&square(), &neighbour());
     about_triangle(&large_triangle());
     about_wedge(&wedge());
     about_lengths(&row());
@@ -110,6 +113,20 @@ fn say_corner(text: &[u8], s: &[i16], x: i16, y: i16) {
     say(b" numbers\n");
 }
 
+fn say_joined(text: &[u8], op: Op, a: &[i16], b: &[i16]) {
+    let mut out = [0i16; 60];
+    say(text);
+    say(b": ");
+    let j = join::combine(op, a, b, &mut out);
+    match j {
+        Joined::Records(n) => {
+            io::print_decimal(1, n as u64);
+            say(b" records\n");
+        }
+        Joined::Refused { chart, refusal } => say_refusal(refusal),
+    }
+}
+
 // ---- charts
 
 // Corners (0,0) and (4,4).
@@ -153,6 +170,52 @@ fn square() -> [i16; 40] {
         4,
         4,
         4,
+        0,
+        1,
+    ]
+}
+
+// The square's neighbour, corners (4,0) and (8,4).
+fn neighbour() -> [i16; 40] {
+    [
+        4,
+        0,
+        8,
+        0,
+        1,
+        4,
+        0,
+        4,
+        4,
+        0,
+        4,
+        4,
+        4,
+        0,
+        0,
+        4,
+        4,
+        8,
+        4,
+        0,
+        8,
+        0,
+        4,
+        0,
+        1,
+        8,
+        0,
+        8,
+        4,
+        1,
+        8,
+        4,
+        4,
+        4,
+        0,
+        8,
+        4,
+        8,
         0,
         1,
     ]
@@ -521,6 +584,12 @@ fn about_hole(s: &[i16]) {
     say_by_mark(b"(1,1)", s, 1, 1);
     say_by_mark(b"(3,3)", s, 3, 3);
     say_corner(b"the run at (0,0)", s, 0, 0);
+}
+
+fn about_neighbours(a: &[i16], b: &[i16]) {
+    say_joined(b"the square or its neighbour", Op::Union, a, b);
+    say_joined(b"the square and its neighbour", Op::Intersection, a, b);
+    say_joined(b"the square and not its neighbour", Op::Difference, a, b);
 }
 
 fn about_triangle(s: &[i16]) {

@@ -92,14 +92,15 @@ module _ (z : ℤ) (h : mag z < 32768) where
       go (pos n) h = rw (le-ltb (n + 32768) 32768 (omega arith)) (ap pos (omega arith))
       go (negsuc n) h = rw (lt-ltb (32767 - n) 32768 (omega arith)) (ap negsuc (omega arith))
 
-module _ (n : ℕ) (h : n < 65536) where
-  pub down-fits : mag (down n) < 32768
-  down-fits = go (ltb n 32768) refl
+module _ (n : ℕ) where
+  pub down-fits : n < 65536 → mag (down n) < 32768
+  down-fits h = go (ltb n 32768) refl
     where
       go : (b : Bool) → ltb n 32768 ≡ b → mag (cond b (negsuc (32768 - suc n)) (pos (n - 32768))) < 32768
       go true e = omega (arith, tests)
       go false e = omega (arith, tests)
 
+  -- of every count, though only one below 65,536 has a coordinate
   pub up-down : up (down n) ≡ n
   unfolding up
   up-down = go (ltb n 32768) refl

@@ -3,6 +3,7 @@
 --                       answered, and the place's kind
 --     corner-answer     it has where the run starts and how long it is
 --     head-answer       it has which array holds the smaller head
+--     join-answer       it has how many records were written, or the refusal, its index and the chart that it names
 --     read-answer       it has how many records were read, or the file's refusal and its place
 --     gauge-answer      it has the sample's refusal, and nothing else
 --     gauge-spring, gauge-bridge, gauge-other    what is read is what the card of that kind gives; 21 for any other
@@ -25,15 +26,18 @@ use Rattle.area.specs.Areas.{areaOf}
 use Rattle.gauge.specs.declared.Card.the-variants.{Spring, Bridge}
 use Rattle.gauge.specs.declared.Gauged.{Gauged}
 use Rattle.gauge.specs.Readings.{refusedBy, Gauges}
+use Rattle.join.specs.declared.Op.{Op}
+use Rattle.join.specs.Joinings as joining
+use Rattle.join.specs.Joinings.{joinRefusal, chartNamed, outcome}
 use Rattle.file.specs.Files.{fileOf}
 use Rattle.file.specs.Answers.{answerOf, readRefusal}
 use Rattle.rig.specs.Bits.{valueOf, numberOf, lengthOf}
 use Rattle.rig.specs.Answers.{checkAnswer, placeKind, pointAnswer, cornerAnswer, headKind, headAnswer, areaAnswer}
-use Rattle.rig.specs.Answers.{readValue, readAnswer}
+use Rattle.rig.specs.Answers.{joinValue, joinAnswer, readValue, readAnswer}
 use Rattle.rig.specs.Gauging.{SampleRead}
 use Rattle.rig.proofs.BitLaws.{Decoded, packed-decoded}
 use Rattle.rig.proofs.DecodeLaws.{check-decoded, point-decoded, area-decoded, corner-decoded, read-decoded}
-use Rattle.rig.proofs.DecodeLaws.{sample-decoded}
+use Rattle.rig.proofs.DecodeLaws.{join-decoded, sample-decoded}
 use Rattle.rig.proofs.GaugingLaws.{by-spring, by-bridge, by-neither, sample-one}
 use Rattle.rig.proofs.bz_check.Kinds as bz-check-kinds
 use Rattle.rig.proofs.bz_check.Reads as bz-check
@@ -45,6 +49,12 @@ use Rattle.rig.proofs.bz_head.Kinds as bz-head-kinds
 use Rattle.rig.proofs.bz_head.Reads as bz-head
 use Rattle.rig.proofs.bz_area2.Kinds as bz-area2-kinds
 use Rattle.rig.proofs.bz_area2.Reads as bz-area2
+use Rattle.rig.proofs.bz_union.Kinds as bz-union-kinds
+use Rattle.rig.proofs.bz_union.Reads as bz-union
+use Rattle.rig.proofs.bz_intersection.Kinds as bz-intersection-kinds
+use Rattle.rig.proofs.bz_intersection.Reads as bz-intersection
+use Rattle.rig.proofs.bz_difference.Kinds as bz-difference-kinds
+use Rattle.rig.proofs.bz_difference.Reads as bz-difference
 use Rattle.rig.proofs.bz_gauge.Kinds as bz-gauge-kinds
 use Rattle.rig.proofs.bz_gauge.Reads as bz-gauge
 use Rattle.rig.proofs.bz_read.Kinds as bz-read-kinds
@@ -71,6 +81,10 @@ module _ (s : List ℤ) where
 
 pub head-answer : (h : Head) → Decoded (headAnswer h) 0 0 0 (headKind h)
 head-answer h = packed-decoded 0 0 0 (headKind h) (omega arith) (omega arith) (omega arith)
+
+pub join-answer : (op : Op) (a b lent : List ℤ) → let j = joining.answerOf (outcome op a b (length lent)) in
+    Decoded (joinAnswer j) (joinValue j) (joinRefusal j .number) (chartNamed j) 0
+join-answer op a b lent = join-decoded op a b lent
 
 pub read-answer : (s : List ℕ) (lent : List ℤ) → let a = answerOf (fileOf s (length lent)) in
     Decoded (readAnswer a) (readValue a) (readRefusal a .number) 0 0
@@ -111,6 +125,17 @@ same-bz-head κs a v w s t h k = h ∙ sym k
 
 pub same-bz-area2 : SettledLent 2 bz-area2-kinds.ps bz-area2-kinds.r ℕ ℤ (λ κs s. now (s .1 .0)) bz-area2.Post
 same-bz-area2 κs a v w s t h k = (h .0 ∙ sym (k .0), h .1 ∙ sym (k .1))
+
+pub same-bz-union : SettledLent 3 bz-union-kinds.ps bz-union-kinds.r ℕ (List ℤ) (λ κs s. now (s .1 .1 .0)) bz-union.Post
+same-bz-union κs a v w s t h k = (h .says ∙ sym (k .says), h .leaves ∙ sym (k .leaves))
+
+pub same-bz-intersection : SettledLent 3 bz-intersection-kinds.ps bz-intersection-kinds.r ℕ (List ℤ)
+    (λ κs s. now (s .1 .1 .0)) bz-intersection.Post
+same-bz-intersection κs a v w s t h k = (h .says ∙ sym (k .says), h .leaves ∙ sym (k .leaves))
+
+pub same-bz-difference : SettledLent 3 bz-difference-kinds.ps bz-difference-kinds.r ℕ (List ℤ)
+    (λ κs s. now (s .1 .1 .0)) bz-difference.Post
+same-bz-difference κs a v w s t h k = (h .says ∙ sym (k .says), h .leaves ∙ sym (k .leaves))
 
 -- the pressure and the row
 pub same-bz-gauge : SettledLent 2 bz-gauge-kinds.ps bz-gauge-kinds.r ℕ (Float × ℤ)

@@ -4,15 +4,16 @@
 -- Assumes nothing.
 use mathlib.Core.Path.{_≡_, refl}
 use mathlib.Core.Bool.{true, false}
+use mathlib.Core.List.{[]}
 use lib.IntN.{pos, negsuc}
 use lib.Ieee.{fin, fits}
-use Rattle.counts.specs.Count.{sum, any, firstIndex, listed}
+use Rattle.counts.specs.Count.{sum, keep, any, firstIndex, listed}
 use Rattle.counts.specs.Scan.{firstFrom}
 use Rattle.plane.specs.Turns.{turnsLeft, turnsRight, straight}
 use Rattle.plane.specs.Touching.{within, splits, touches}
 use Rattle.plane.specs.Columns.{countedFor, belowPoint, holds, endsAt}
 use Rattle.grid.specs.Coordinates.{up, pointOf}
-use Rattle.record.specs.Records.{recordAt}
+use Rattle.record.specs.Records.{recordAt, records}
 use Rattle.record.specs.Order.{squareLength, leads, earlier, precedes}
 use Rattle.segment.specs.Segments.{segment, isRecord}
 use Rattle.chart.specs.declared.Verdict.the-variants.{Accepted}
@@ -21,10 +22,15 @@ use Rattle.area.specs.declared.Area.the-variants.{Twice}
 use Rattle.area.specs.Areas.{total, share, areaOf}
 use Rattle.question.specs.declared.Place.the-variants.{Inside, Edge, Outside}
 use Rattle.question.specs.Places.{placeOf, placed}
+use Rattle.combined.specs.Kept.{either}
+use Rattle.combined.specs.Results.{inserted, inOrder}
+use Rattle.join.specs.declared.Op.the-variants.{Union, Intersection, Difference}
+use Rattle.join.specs.declared.Joined.the-variants.{Records}
+use Rattle.join.specs.Joinings.{joined, joinedIn, outcome, answerOf}
 use Rattle.gauge.specs.Values.{size, isMultiple, hasMinus, units}
 use Rattle.gauge.specs.Cards.{isFactor, isFrom, sound}
 use Rattle.gauge.specs.Readings.{pressure, row, atPin, refusal, refusedBy, Gauges}
-use Rattle.promises.specs.Bench.{square, lastMarkZero, bottomMarkedZero, squareWithHole, largeTriangle}
+use Rattle.promises.specs.Bench.{square, lastMarkZero, bottomMarkedZero, squareWithHole, neighbour, largeTriangle}
 use Rattle.promises.specs.Bench.{doubled, shifted, halved, spring, reads}
 
 pub record Starred : Type 0 where
@@ -44,6 +50,9 @@ pub record Starred : Type 0 where
   pub triangle-edge : placed largeTriangle (pointOf (pos 0) (negsuc 0)) ≡ Edge
   pub triangle-outside : placed largeTriangle (pointOf (pos 0) (pos 0)) ≡ Outside
   pub triangle-area : areaOf largeTriangle ≡ Twice (pos 4294836225)
+  pub neighbours-union : answerOf (outcome Union square neighbour 60) ≡ Records 12
+  pub neighbours-intersection : outcome Intersection square neighbour 0 ≡ joined []
+  pub neighbours-difference : outcome Difference square neighbour 40 ≡ joined (records square)
   pub doubled-read : Gauges doubled (pos 16383) (reads (fin false 16383 (pos 1)) (pos 32766))
   pub doubled-refused : Gauges doubled (pos 16384) (refusedBy 23)
   pub shifted-refused : Gauges shifted (negsuc 32767) (refusedBy 23)
@@ -52,9 +61,9 @@ pub record Starred : Type 0 where
   pub spring-refused : Gauges spring (pos 1000) (refusedBy 22)
 
 pub starred : Starred
-unfolding sum any firstIndex listed firstFrom up recordAt precedes earlier leads squareLength segment isRecord
+unfolding sum keep any firstIndex listed firstFrom up recordAt precedes earlier leads squareLength segment isRecord
     touches splits within turnsLeft turnsRight straight countedFor endsAt belowPoint holds
-    verdict judged placeOf placed total share areaOf
+    verdict judged placeOf placed total share areaOf either inserted inOrder joinedIn outcome
     fits size isMultiple hasMinus units isFactor isFrom sound pressure row atPin refusal
 starred = record {
   square-accepted = refl;
@@ -73,6 +82,9 @@ starred = record {
   triangle-edge = refl;
   triangle-outside = refl;
   triangle-area = refl;
+  neighbours-union = refl;
+  neighbours-intersection = refl;
+  neighbours-difference = refl;
   doubled-read = record { number = refl; exact = record { held = refl; value = (refl, refl) }; place = refl };
   doubled-refused = record { number = refl; exact = record { held = refl; value = (refl, refl) }; place = refl };
   shifted-refused = record { number = refl; exact = record { held = refl; value = (refl, refl) }; place = refl };

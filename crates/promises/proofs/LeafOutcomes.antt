@@ -55,6 +55,8 @@ use Rattle.segment.proofs.segment_of.Kinds as segment-of-kinds
 use Rattle.segment.proofs.segment_of.Reads as segment-of
 use Rattle.segment.proofs.is_record.Kinds as is-record-kinds
 use Rattle.segment.proofs.is_record.Reads as is-record
+use Rattle.segment.proofs.is_segment.Kinds as is-segment-kinds
+use Rattle.segment.proofs.is_segment.Reads as is-segment
 use Rattle.segment.proofs.is_vertical.Kinds as is-vertical-kinds
 use Rattle.segment.proofs.is_vertical.Reads as is-vertical
 use Rattle.segment.proofs.is_end.Kinds as is-end-kinds
@@ -71,6 +73,8 @@ use Rattle.segment.proofs.is_higher.Kinds as is-higher-kinds
 use Rattle.segment.proofs.is_higher.Reads as is-higher
 use Rattle.among.proofs.has_record.Kinds as has-record-kinds
 use Rattle.among.proofs.has_record.Reads as has-record
+use Rattle.among.proofs.has_segment.Kinds as has-segment-kinds
+use Rattle.among.proofs.has_segment.Reads as has-segment
 use Rattle.among.proofs.is_touched.Kinds as is-touched-kinds
 use Rattle.among.proofs.is_touched.Reads as is-touched
 use Rattle.among.proofs.end_count.Kinds as end-count-kinds
@@ -159,6 +163,9 @@ same-segment-of κs a v w s t h k = h ∙ sym k
 pub same-is-record : Settled 0 is-record-kinds.ps is-record-kinds.r Bool is-record.Post
 same-is-record κs a v w s t h k = h ∙ sym k
 
+pub same-is-segment : Settled 0 is-segment-kinds.ps is-segment-kinds.r Bool is-segment.Post
+same-is-segment κs a v w s t h k = h ∙ sym k
+
 pub same-is-vertical : Settled 0 is-vertical-kinds.ps is-vertical-kinds.r Bool is-vertical.Post
 same-is-vertical κs a v w s t h k = h ∙ sym k
 
@@ -184,6 +191,9 @@ same-is-higher κs a v w s t h k = h ∙ sym k
 
 pub same-has-record : Settled 1 has-record-kinds.ps has-record-kinds.r Bool has-record.Post
 same-has-record κs a v w s t h k = h ∙ sym k
+
+pub same-has-segment : Settled 1 has-segment-kinds.ps has-segment-kinds.r Bool has-segment.Post
+same-has-segment κs a v w s t h k = h ∙ sym k
 
 pub same-is-touched : Settled 1 is-touched-kinds.ps is-touched-kinds.r Bool is-touched.Post
 same-is-touched κs a v w s t h k = h ∙ sym k

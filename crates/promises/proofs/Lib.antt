@@ -1,5 +1,6 @@
 pub mod Settled
 pub mod Promises
+pub mod Joining
 pub mod Refusals
 pub mod Outcomes
 pub mod LeafOutcomes

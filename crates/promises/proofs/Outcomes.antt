@@ -4,12 +4,15 @@
 --     point-by-mark     and what `point` and `inside_by_mark` answer is one
 --     same-read-sample  the refusal's number, the pressure as a float and the row, for every card and sample
 --     same-read         the answer and the lent array, for every file and array
+--     same-combine      the answer and the lent array, for every two arrays and every array lent
+--     same-joins        or, and, and-not
 --     same-take-number, same-signed-of    one number of a file
 --     same-corner, same-run-at, same-smaller-head               the part: its numbers, the array it lies in, its place
 --     same-corner-of, same-run-of, same-head-of                 where it lies, and which array holds it
 -- The functions of the boundary: Boundary.antt.
 -- Assumes nothing.
 use mathlib.Core.Path.{_≡_, sym, _∙_}
+use mathlib.Core.Bool.{Bool}
 use mathlib.Core.List.{List}
 use denote.Ref.{RefT, now}
 use lib.IntN.{ℤ}
@@ -37,6 +40,11 @@ use Rattle.area.proofs.area2.Kinds as area2-kinds
 use Rattle.area.proofs.area2.Reads as area2
 use Rattle.gauge.proofs.read_sample.Kinds as read-sample-kinds
 use Rattle.gauge.proofs.read_sample.Reads as read-sample
+use Rattle.join.specs.declared.Joined.{Joined}
+use Rattle.join.proofs.combine.Kinds as combine-kinds
+use Rattle.join.proofs.combine.Reads as combine
+use Rattle.join.proofs.joins.Kinds as joins-kinds
+use Rattle.join.proofs.joins.Reads as joins
 use Rattle.file.specs.declared.Answer.{Answer}
 use Rattle.number.specs.declared.Number.{Number}
 use Rattle.file.proofs.read.Kinds as read-kinds
@@ -90,6 +98,15 @@ same-area2 κs a v w s t h k = h ∙ sym k
 -- the contract says what the pressure's value is, and one 64-bit float has that value
 pub same-read-sample : Settled 0 read-sample-kinds.ps read-sample-kinds.r Gauged read-sample.Post
 same-read-sample κs a v w s t h k = gauges-one h k
+
+-- ---- join
+
+pub same-joins : Settled 0 joins-kinds.ps joins-kinds.r Bool joins.Post
+same-joins κs a v w s t h k = h ∙ sym k
+
+pub same-combine : SettledLent 3 combine-kinds.ps combine-kinds.r Joined (List ℤ) (λ κs s. now (s .1 .1 .1 .0))
+    combine.Post
+same-combine κs a v w s t h k = (h .says ∙ sym (k .says), h .leaves ∙ sym (k .leaves))
 
 -- ---- file
 

@@ -6,9 +6,12 @@
 --     named-inside, nothing-outside    so where `nearest below` names a record its mark tells Inside from Outside, and
 --                         where it names none the point is Outside
 --     nearest-single      there is one nearest boundary at the most, so its mark is one
+--     combined-charts     demand 3, second part: what two charts combined give is itself accepted, and answers as the
+--                         two do
 --     corner-run, corner-records    the corner run of a region is its run there: the records at that corner and no
 --                         others
--- Demand 1, that each question first gives the chart's refusal: Refusals.antt. What is promised of gauges: Gauges.antt.
+-- Demand 1, that each question first gives the chart's refusal: Refusals.antt. What is promised of joining beyond that,
+-- and of any number of charts: Joining.antt; of gauges: Gauges.antt.
 -- That any two outcomes of one promise coincide: Outcomes.antt for the questions, LeafOutcomes.antt for the functions
 -- below them. The starred bench examples under a single statement: Examples.antt. What goes wrong where a rule of
 -- counting is dropped: Slips.antt.
@@ -16,12 +19,13 @@
 use mathlib.Core.Path.{_≡_, refl, sym, ap, _∙_, subst}
 use mathlib.Core.Logic.{_↔_}
 use mathlib.Core.Bool.{Bool, true, false, cond, true≢false}
-use mathlib.Core.List.{List}
+use mathlib.Core.List.{List, [], _∷_}
 use Prim.Native.Nat.{ℕ, _*_, _<_, _≤_, zero-le}
 use native.Mathlib.Omega.{arith}
 use denote.Ref.{RefT}
 use lib.Dec.{eqb}
 use lib.IntN.{ℤ}
+use lib.ListN.{length, take}
 use borrow.Author.Tests.{eqb-true, eqb-false}
 use Rattle.counts.specs.Count.{_∈_, odd}
 use Rattle.counts.proofs.ListedLaws.{mem-listed}
@@ -30,21 +34,27 @@ use Rattle.record.specs.Records.{width, recordAt, recordCount, records, marked}
 use Rattle.parts.specs.Parts.{Part, atCorner, runOf, Run}
 use Rattle.parts.proofs.RunLaws.{run-only, run-all}
 use Rattle.chart.specs.declared.Verdict.the-variants.{Accepted}
-use Rattle.chart.specs.Verdicts.{verdict}
+use Rattle.chart.specs.Verdicts.{limit, verdict}
 use Rattle.chart.specs.Regions.{Region}
 use Rattle.chart.proofs.RegionLaws.{accepted-is}
 use Rattle.chart.proofs.OnceLaws.{region-place}
 use Rattle.region.specs.Boundaries.{held, below, nearest}
 use Rattle.region.proofs.MarkLaws.{nearest-one}
-use Rattle.question.specs.declared.Place.{Place}
 use Rattle.question.specs.declared.Place.the-variants.{Outside, Inside, Edge}
-use Rattle.question.specs.declared.Place.the-variants as place
 use Rattle.nearest.specs.declared.Nearest.the-variants.{Nothing, At}
-use Rattle.question.specs.Places.{byCount, placeOf, placeIf, placed}
+use Rattle.question.specs.Places.{byCount, isInside, placeOf, placeIf, placed}
 use Rattle.nearest.specs.Nearests.{nearestOf, nearestIf, nearestBelow, byMark}
 use Rattle.question.specs.Corners.{Corner}
 use Rattle.question.proofs.CornerLaws.{cornerOf-accepted}
 use Rattle.nearest.proofs.ByMarkLaws.{byMark-byCount}
+use Rattle.combined.specs.Together.{Together}
+use Rattle.combined.proofs.SoundLaws.{result-region}
+use Rattle.combined.proofs.PlaceLaws.{result-place}
+use Rattle.join.specs.declared.Op.{Op}
+use Rattle.join.specs.declared.Joined.the-variants.{Records}
+use Rattle.join.specs.Joinings.{joinedBy, joining, resultOf, Joins}
+use Rattle.join.proofs.MarkLaws.{of-both, two-together, joining-none}
+use Rattle.join.proofs.OutcomeLaws.{Combined, joins-combined}
 
 -- ---- demand 2
 
@@ -82,16 +92,10 @@ module _ (s : List ℤ) (e : verdict s ≡ Accepted) (p : Point) (off : held (re
   pub named-inside : (i : ℕ) → nearestBelow s p ≡ At i → (placed s p ≡ Inside) ↔ (recordAt s i .mark ≡ marked)
   named-inside i h = rw (by-nearest ∙ ap (byMark s) h) (by-test (eqb (recordAt s i .mark) marked) refl)
     where
-      inside : Place → Bool
-      inside Outside = false
-      inside Inside = true
-      inside Edge = false
-      inside (place.Refused r) = false
-
       by-test : (b : Bool) → eqb (recordAt s i .mark) marked ≡ b
           → (cond b Inside Outside ≡ Inside) ↔ (recordAt s i .mark ≡ marked)
       by-test true g = ((λ a. eqb-true _ _ g), (λ m. refl))
-      by-test false g = ((λ a. absurd (true≢false (sym (ap inside a)))), (λ m. absurd (eqb-false _ _ g m)))
+      by-test false g = ((λ a. absurd (true≢false (sym (ap isInside a)))), (λ m. absurd (eqb-false _ _ g m)))
 
   pub nothing-outside : nearestBelow s p ≡ Nothing → placed s p ≡ Outside
   nothing-outside h = by-nearest ∙ ap (byMark s) h
@@ -102,6 +106,43 @@ nearest-single s p g i j l h m n = region-place g i j l h (nearest-one (g .sound
   where
     member : (k : ℕ) → k < recordCount s → recordAt s k ∈ records s
     member k l = mem-listed (recordAt s) 0 (recordCount s) k zero-le (omega arith)
+
+-- ---- demand 3, second part
+
+pub combined-charts :
+    -- When two accepted charts
+    (op : Op) (a b : List ℤ) → verdict a ≡ Accepted → verdict b ≡ Accepted
+    -- are combined without refusal,
+    → (lent out : List ℤ) (n : ℕ) → Joins op a b lent out (Records n)
+    -- the result is itself accepted,
+    → (verdict (take (width * n) out) ≡ Accepted)
+    -- and at every grid point on neither boundary
+    × ((p : Point) → held (records a) p ≡ false → held (records b) p ≡ false
+    -- it says inside exactly when
+    → isInside (placed (take (width * n) out) p)
+    -- the two charts' answers joined by or, and, or and-not say so.
+    ≡ joinedBy op (isInside (placed a p)) (isInside (placed b p)))
+combined-charts op a b v w lent out n joins = (
+  ap verdict (c .is) ∙ accepted-is _ .1 (result-region together (joining op) (joining-none op) few),
+  λ p offA offB.
+      ap (λ s. isInside (placed s p)) (c .is)
+      ∙ ap isInside (result-place together (joining op) (joining-none op) p
+      (of-both (λ s. held (records s) p ≡ false) offA offB) few)
+      ∙ by-side (joinedBy op (isInside (placed a p)) (isInside (placed b p))),
+)
+  where
+    c : Combined op a b lent out n
+    c = joins-combined op a b lent out joins refl
+
+    together : Together (a ∷ b ∷ [])
+    together = two-together a b (c .met .first) (c .met .second) (c .met .apart)
+
+    few : length (resultOf op a b) ≤ limit
+    few = c .met .few
+
+    by-side : (t : Bool) → isInside (cond t Inside Outside) ≡ t
+    by-side true = refl
+    by-side false = refl
 
 -- ---- the corner run
 

@@ -3,6 +3,7 @@
 --     lastMarkZero       the same with its last mark 0
 --     bottomMarkedZero   the same with both halves of the bottom side marked 0
 --     squareWithHole     the square plus the hole (0,0), (2,1), (1,2)
+--     neighbour          the square's neighbour, corners (4,0) and (8,4)
 --     largeTriangle      (-32768,-32768), (32767,-32768), (-32768,32767)
 --     squareFile         document 01's file of the square, byte by byte
 --     zero, half, one, two, thousand    as floats: m * 2 ^ e
@@ -84,6 +85,18 @@ squareWithHole =
     ∷ pos 4 ∷ pos 0 ∷ pos 4 ∷ pos 4 ∷ pos 1
     ∷ pos 4 ∷ pos 4 ∷ pos 0 ∷ pos 4 ∷ pos 0
     ∷ pos 4 ∷ pos 4 ∷ pos 4 ∷ pos 0 ∷ pos 1
+    ∷ []
+
+abbrev pub neighbour : List ℤ
+neighbour =
+    pos 4 ∷ pos 0 ∷ pos 8 ∷ pos 0 ∷ pos 1
+    ∷ pos 4 ∷ pos 0 ∷ pos 4 ∷ pos 4 ∷ pos 0
+    ∷ pos 4 ∷ pos 4 ∷ pos 4 ∷ pos 0 ∷ pos 0
+    ∷ pos 4 ∷ pos 4 ∷ pos 8 ∷ pos 4 ∷ pos 0
+    ∷ pos 8 ∷ pos 0 ∷ pos 4 ∷ pos 0 ∷ pos 1
+    ∷ pos 8 ∷ pos 0 ∷ pos 8 ∷ pos 4 ∷ pos 1
+    ∷ pos 8 ∷ pos 4 ∷ pos 4 ∷ pos 4 ∷ pos 0
+    ∷ pos 8 ∷ pos 4 ∷ pos 8 ∷ pos 0 ∷ pos 1
     ∷ []
 
 abbrev pub largeTriangle : List ℤ

@@ -5,9 +5,10 @@
 --     placeOf rs p      Edge where a segment holds p; else by the count
 --     placeIf v a       the answer a, or the refusal that v gives
 --     placed s p        where p lies to the chart s: first its refusal, if it is no chart
+--     isInside a        the answer is Inside
 --     placeRefusal a    the paper's number and index for each case: 0 and 0 where it is answered
 -- Assumes nothing.
-use mathlib.Core.Bool.{Bool, cond}
+use mathlib.Core.Bool.{Bool, true, false, cond}
 use mathlib.Core.List.{List}
 use lib.IntN.{ℤ}
 use Rattle.counts.specs.Count.{odd}
@@ -34,6 +35,12 @@ placeOf rs p = placeBy (held rs p) (odd (below rs p))
 abbrev pub placeIf : Verdict → Place → Place
 placeIf Accepted a = a
 placeIf (Refused r) a = place.Refused r
+
+abbrev pub isInside : Place → Bool
+isInside place.Outside = false
+isInside place.Inside = true
+isInside place.Edge = false
+isInside (place.Refused r) = false
 
 abbrev pub placeRefusal : Place → Refusal
 placeRefusal place.Outside = noRefusal

@@ -1,7 +1,9 @@
 -- The column lemma. At a column and a height: the segments that come from the left below that height, those that go
 -- on to the right below it, and the vertical ones across it. A segment is in an odd number of these three sets exactly
 -- if one of its ends, not both, lies on the column below that height; and a chart has an even number of ends there.
---     column    of an even chart the three sets have together an even number of members
+--     endBelow M c η p     p lies on the column c below the height η
+--     at-column            of one segment, the number of these sets that it is in, and of its ends there: one parity
+--     column               of an even chart the three sets have together an even number of members
 -- Assumes nothing.
 use mathlib.Core.Path.{_≡_, refl, sym, ap}
 use mathlib.Core.Logic.{inl, inr}
@@ -45,14 +47,14 @@ rest true false h = refl
 rest false true h = absurd (true≢false (sym (h refl)))
 rest false false h = refl
 
+abbrev pub endBelow : ℕ → ℕ → ℕ → Point → Bool
+endBelow M c η p = eqb (p .x) c && ltb (2 * M * p .y) η
+
 module _ {W : ℕ} (M : ℕ) (scale : Scale W M) where
   module _ (c η : ℕ) where
-    abbrev endBelow : Point → Bool
-    endBelow p = eqb (p .x) c && ltb (2 * M * p .y) η
-
-    at-column : (t : Segment) → Forward t → t .b .x < W
+    pub at-column : (t : Segment) → Forward t → t .b .x < W
         → (ind (fromLeft M c η t) + ind (toRight M c η t) + ind (across M c η t)) % 2
-        ≡ (ind (endBelow (t .a)) + ind (endBelow (t .b))) % 2
+        ≡ (ind (endBelow M c η (t .a)) + ind (endBelow M c η (t .b))) % 2
     at-column t f small =
         rw (leb-not c (t .b .x), leb-not (t .a .x) c, leb-not η (2 * M * t .b .y))
         (go (before-true (t .a) (t .b) f) (lies (t .a .x) c) (lies (t .b .x) c))
@@ -96,5 +98,5 @@ module _ {W : ℕ} (M : ℕ) (scale : Scale W M) where
         sum-add (λ t. ind (fromLeft M c η t)) (λ t. ind (toRight M c η t)) ss,
         sum-add (λ t. ind (fromLeft M c η t) + ind (toRight M c η t)) (λ t. ind (across M c η t)) ss,
         sum-parity _ _ ss (λ t m. at-column c η t (chart .forward t m) (chart .small t m)),
-        even-ends chart (endBelow c η),
+        even-ends chart (endBelow M c η),
       )

@@ -1,5 +1,6 @@
 -- The ends of the segments of a chart: an even number at every point, so an even number in any set of points.
---     even-ends    that, of an even chart
+--     one-end      a point is at most one of the two ends of a segment: the test `endsAt` counts it once
+--     even-ends    of an even chart, an even number of ends lie in any set of points
 -- Assumes nothing.
 use mathlib.Core.Path.{_≡_, refl, sym, _∙_}
 use mathlib.Core.Bool.{Bool, true, false, _||_}
@@ -26,8 +27,7 @@ unfolding sum ends
 count-ends q [] = refl
 count-ends q (s ∷ ss) = omega (arith, count-ends q ss)
 
--- p is at most one of the two ends
-one-end : (p : Point) (t : Segment) → Forward t → ind (same (t .a) p) + ind (same (t .b) p) ≡ ind (endsAt p t)
+pub one-end : (p : Point) (t : Segment) → Forward t → ind (same (t .a) p) + ind (same (t .b) p) ≡ ind (endsAt p t)
 unfolding endsAt
 one-end p t f = go (same (t .a) p) (same (t .b) p) refl refl
   where

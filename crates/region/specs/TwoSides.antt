@@ -2,23 +2,17 @@
 -- side, or a vertical one's left, lies in a chart exactly if the mark's count for that segment, taken over that chart's
 -- own segments, is odd; so does its other side, but the reverse if the chart has that segment").
 --     upperSide rs s      whether the upper side of s, or the left of a vertical one, lies in the chart
---     hasSegment rs s     the chart has that segment
 --     lowerSide rs s      whether the other side does
 -- Assumes nothing.
 use mathlib.Core.Bool.{Bool}
 use mathlib.Core.List.{List}
-use Rattle.counts.specs.Count.{any, odd, _⊕_}
+use Rattle.counts.specs.Count.{odd, _⊕_}
 use Rattle.plane.specs.declared.Segment.{Segment}
-use Rattle.plane.specs.Points.{isSegment}
 use Rattle.record.specs.declared.Record.{Record}
-use Rattle.segment.specs.Segments.{ofSegment}
-use Rattle.among.specs.Among.{markCount}
+use Rattle.among.specs.Among.{hasSegment, markCount}
 
 abbrev pub upperSide : List Record → Segment → Bool
 upperSide rs s = odd (markCount rs s)
-
-abbrev pub hasSegment : List Record → Segment → Bool
-hasSegment rs s = any (ofSegment (isSegment s)) rs
 
 abbrev pub lowerSide : List Record → Segment → Bool
 lowerSide rs s = upperSide rs s ⊕ hasSegment rs s

@@ -2,10 +2,12 @@
 --     index-small                            the index of a chart's refusal
 --     check-small, point-small, area-small   so, of the refusal that each question gives
 --     corner-small                           a run's start and length
+--     join-small                             the number of records written, and the index of a refusal of joining
 --     records-small, place-small             the number of records read, and the place of a file's refusal
 --     area-told, area-refused                the two returns of the area
+--     join-told                              the return of joining
 -- Assumes nothing.
-use mathlib.Core.Path.{_≡_, sym, ap, _∙_}
+use mathlib.Core.Path.{_≡_, refl, sym, ap, _∙_}
 use mathlib.Core.List.{List}
 use Prim.Native.Nat.{ℕ, _*_, _^_, _<_, _≤_}
 use native.Mathlib.Omega.{arith}
@@ -31,13 +33,18 @@ use Rattle.area.specs.declared.Area.{Area}
 use Rattle.area.specs.declared.Area.the-variants as area
 use Rattle.area.specs.Areas.{areaRefusal, areaOf}
 use Rattle.area.proofs.AreaLaws.{areaOf-refusal}
+use Rattle.join.specs.declared.Op.{Op}
+use Rattle.join.specs.declared.Joined.{Joined}
+use Rattle.join.specs.declared.Joined.the-variants as join
+use Rattle.join.specs.Joinings.{Joins}
+use Rattle.join.proofs.OutcomeLaws.{outcome-told, told-small, joins-combined, joins-refused}
 use Rattle.file.specs.declared.Answer.{Answer}
 use Rattle.file.specs.declared.Answer.the-variants as file
 use Rattle.file.specs.Answers.{Reads}
 use Rattle.file.proofs.AnswerLaws.{reads-took, reads-refused}
 use Rattle.file.proofs.RefusalLaws.{fileOf-told}
 use Rattle.rig.specs.Bits.{packed, ofRefusal}
-use Rattle.rig.specs.Answers.{areaAnswer, areaLeft}
+use Rattle.rig.specs.Answers.{areaAnswer, areaLeft, joinValue, joinAnswer, Combines}
 
 -- ---- of a chart
 
@@ -67,6 +74,23 @@ module _ (s : List ℤ) where
 
     pub corner-small : {a : Span} → a ≡ cornerOf s p → (a .from ≤ a .upto) × (a .upto ≤ width * limit)
     corner-small e = (corner-within s p e .0, corner-short s p e)
+
+-- ---- of two charts
+
+pub join-small : (op : Op) (a b lent out : List ℤ) {j : Joined} → Joins op a b lent out j → joinValue j < 2 ^ 32
+join-small op a b lent out {j} joins = go j refl
+  where
+    go : (k : Joined) → j ≡ k → joinValue k < 2 ^ 32
+    go (join.Records n) e =
+        let c = joins-combined op a b lent out joins e in
+        omega (arith, c .many, c .met .few)
+    go (join.Refused c r) e =
+        let told = outcome-told op a b (length lent) c r (joins-refused op a b lent out joins e) in
+        omega (arith, told-small told .index)
+
+pub join-told : (op : Op) (a b lent out : List ℤ) {j : Joined} {n : ℕ} → Joins op a b lent out j → n ≡ joinAnswer j
+    → Combines op a b lent out n
+join-told op a b lent out joins e = record { says = e ∙ ap joinAnswer (joins .says); leaves = joins .leaves }
 
 -- ---- of a file
 

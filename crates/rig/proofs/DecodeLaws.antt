@@ -1,12 +1,14 @@
 -- What a caller reads from an answer is what the library answers.
 --     check-decoded, point-decoded, area-decoded    the chart's refusal, number and index; and the kind of place
 --     corner-decoded                                where the run starts, and how many numbers it has
+--     join-decoded                                  how many records were written, or the refusal, its index and the
+--                                                   chart that it names
 --     read-decoded                                  how many records were read, or a file's refusal and its place
 --     sample-decoded                                a sample's refusal, and no other bit
 -- Assumes nothing.
 use mathlib.Core.Path.{_≡_, refl, sym, ap, subst}
 use mathlib.Core.List.{List}
-use Prim.Native.Nat.{ℕ, _-_}
+use Prim.Native.Nat.{ℕ, _-_, _^_, _<_}
 use native.Mathlib.Omega.{arith}
 use lib.IntN.{ℤ}
 use lib.Ieee.{Float}
@@ -20,15 +22,20 @@ use Rattle.question.specs.Corners.{cornerOf}
 use Rattle.question.proofs.RefusalLaws.{placed-refusal}
 use Rattle.area.specs.Areas.{areaOf}
 use Rattle.area.proofs.AreaLaws.{areaOf-refusal}
-use Rattle.file.specs.Files.{Taken, taken, refused, fileOf}
+use Rattle.join.specs.declared.Op.{Op}
+use Rattle.join.specs.Joinings as joining
+use Rattle.join.specs.Joinings.{Outcome, joined, refused, joinRefusal, chartNamed, outcome, Joins}
+use Rattle.join.proofs.OutcomeLaws.{outcome-told, told-small}
+use Rattle.file.specs.Files as file
+use Rattle.file.specs.Files.{Taken, taken, fileOf}
 use Rattle.file.specs.Answers.{answerOf, readRefusal, contents, Reads}
 use Rattle.file.proofs.RefusalLaws.{fileOf-told, numbers}
 use Rattle.rig.specs.Bits.{packed, valueOf, numberOf, lengthOf}
 use Rattle.rig.specs.Answers.{checkAnswer, placeKind, pointAnswer, cornerAnswer, areaAnswer}
-use Rattle.rig.specs.Answers.{readValue, readAnswer}
+use Rattle.rig.specs.Answers.{joinValue, joinAnswer, readValue, readAnswer}
 use Rattle.rig.specs.Gauging.{SampleRead}
 use Rattle.rig.proofs.BitLaws.{Decoded, packed-decoded}
-use Rattle.rig.proofs.AnswerLaws.{corner-small, records-small, place-small}
+use Rattle.rig.proofs.AnswerLaws.{corner-small, join-small, records-small, place-small}
 
 -- ---- of a chart
 
@@ -61,6 +68,30 @@ module _ (s : List ℤ) where
         let w = corner-small s p refl in
         (omega (arith, w .0, w .1), omega (arith, w .0, w .1))
 
+-- ---- of two charts
+
+module _ (op : Op) (a b lent : List ℤ) where
+  pub join-decoded : let j = joining.answerOf (outcome op a b (length lent)) in
+      Decoded (joinAnswer j) (joinValue j) (joinRefusal j .number) (chartNamed j) 0
+  join-decoded = go (outcome op a b (length lent)) refl
+    where
+      joins : Joins op a b lent (joining.contents (outcome op a b (length lent)) lent)
+          (joining.answerOf (outcome op a b (length lent)))
+      joins = record { says = refl; leaves = refl }
+
+      small : joinValue (joining.answerOf (outcome op a b (length lent))) < 2 ^ 32
+      small = join-small op a b lent _ joins
+
+      go : (o : Outcome) → outcome op a b (length lent) ≡ o
+          → let j = joining.answerOf o in Decoded (joinAnswer j) (joinValue j) (joinRefusal j .number) (chartNamed j) 0
+      go (joined rs) e =
+          packed-decoded _ 0 0 0 (rw (ap (λ o. joinValue (joining.answerOf o)) e) at small) (omega arith) (omega arith)
+      go (refused c r) e =
+          let fits = told-small (outcome-told op a b (length lent) c r e) in
+          packed-decoded (r .index) (r .number) c 0
+          (rw (ap (λ o. joinValue (joining.answerOf o)) e) at small)
+          (omega (arith, fits .number)) (omega (arith, fits .chart))
+
 -- ---- of a file
 
 module _ (s : List ℕ) (lent : List ℤ) where
@@ -75,7 +106,7 @@ module _ (s : List ℕ) (lent : List ℤ) where
           (readRefusal (answerOf t) .number) 0 0
       go (taken zs end) e =
           packed-decoded _ 0 0 0 (records-small s lent _ reads (ap answerOf e)) (omega arith) (omega arith)
-      go (refused r) e =
+      go (file.refused r) e =
           packed-decoded (r .index) (r .number) 0 0 (place-small s lent _ reads (ap answerOf e))
           (omega (arith, numbers (r .number) (fileOf-told s (length lent) e .number))) (omega arith)
 

@@ -8,6 +8,8 @@
 --     areaAnswer a       refusal and index, or 0
 --     areaLeft a lent    twice the area; what was lent, where the chart is refused
 --     readValue a, readAnswer a     how many records were read; or refusal and place
+--     joinValue j, joinAnswer j     how many records were written; or refusal, index and the chart named
+--     Combines op a b lent out n    n is the answer of joining a and b, and the array that was `lent` is then `out`
 --     FileRead s lent out n    n is the answer of a file s, and the array that was `lent` is then `out`
 -- Assumes nothing.
 use mathlib.Core.Path.{_≡_}
@@ -26,6 +28,11 @@ use Rattle.question.specs.Places.{placeRefusal}
 use Rattle.area.specs.declared.Area.{Area}
 use Rattle.area.specs.declared.Area.the-variants as area
 use Rattle.area.specs.Areas.{areaRefusal}
+use Rattle.join.specs.declared.Op.{Op}
+use Rattle.join.specs.declared.Joined.{Joined}
+use Rattle.join.specs.declared.Joined.the-variants as join
+use Rattle.join.specs.Joinings as joining
+use Rattle.join.specs.Joinings.{joinRefusal, chartNamed, outcome}
 use Rattle.file.specs.declared.Answer.{Answer}
 use Rattle.file.specs.declared.Answer.the-variants as file
 use Rattle.file.specs.Files.{fileOf}
@@ -61,6 +68,17 @@ areaAnswer a = ofRefusal (areaRefusal a)
 abbrev pub areaLeft : Area → ℤ → ℤ
 areaLeft (area.Twice z) lent = z
 areaLeft (area.Refused r) lent = lent
+
+abbrev pub joinValue : Joined → ℕ
+joinValue (join.Records n) = n
+joinValue (join.Refused c r) = r .index
+
+abbrev pub joinAnswer : Joined → ℕ
+joinAnswer j = packed (joinValue j) (joinRefusal j .number) (chartNamed j) 0
+
+pub record Combines (op : Op) (a b lent out : List ℤ) (n : ℕ) : Type 0 where
+  pub says : n ≡ joinAnswer (joining.answerOf (outcome op a b (length lent)))
+  pub leaves : out ≡ joining.contents (outcome op a b (length lent)) lent
 
 abbrev pub readValue : Answer → ℕ
 readValue (file.Records n) = n

@@ -9,9 +9,10 @@ ghost use Rattle.chart.specs.Verdicts.{verdict};
 ghost use Rattle.question.specs.Places.{placed, placeRefusal};
 ghost use Rattle.question.specs.Corners.{cornerOf};
 ghost use Rattle.area.specs.Areas.{areaOf};
+ghost use Rattle.join.specs.declared.Op.the-variants.{Union, Intersection, Difference};
 ghost use Rattle.rig.specs.Bits.{packed, ofRefusal};
 ghost use Rattle.rig.specs.Answers.{checkAnswer, pointAnswer, cornerAnswer, headAnswer, areaAnswer, areaLeft};
-ghost use Rattle.rig.specs.Answers.{FileRead};
+ghost use Rattle.rig.specs.Answers.{joinValue, joinAnswer, Combines, FileRead};
 ghost use Rattle.rig.specs.Gauging.{KindGauges, SampleRead};
 use area::Area;
 use chart::Refusal;
@@ -20,6 +21,9 @@ use file::Answer;
 use gauge::Card;
 use gauge::Gauged;
 use gauge::Reading;
+use join::Joined;
+use join::Op;
+use join::combine;
 use parts::Head;
 use question::Place;
 
@@ -116,6 +120,41 @@ pub extern "C" fn bz_area2(chart: &[i16], out: &mut i64) -> u64
         }
         Area::Refused(r) => pack_refusal(r),
     }
+}
+
+// ---- joining two charts
+
+// How many records were written, or the refusal and the chart that it names: 1 or 2, 0 where it names none.
+fn pack_joined(j: Joined) -> u64
+    requires { ⌜ joinValue j < 2 ^ 32 ⌝ }
+    ensures { λ n. ⌜ n ≡ joinAnswer j ⌝ }
+{
+    match j {
+        Joined::Records(n) => pack(n, 0, 0, 0),
+        Joined::Refused { chart, refusal } => pack(refusal.index, refusal.number, chart, 0),
+    }
+}
+
+// The result goes to `out`, which stays as it is where joining is refused; so it is of the two after it.
+#[no_mangle]
+pub extern "C" fn bz_union(a: &[i16], b: &[i16], out: &mut [i16]) -> u64
+    ensures { λ r. ⌜ Combines Union (now (a .entry)) (now (b .entry)) (now (out .entry)) (now (out .exit)) r ⌝ }
+{
+    pack_joined(combine(Op::Union, a, b, out))
+}
+
+#[no_mangle]
+pub extern "C" fn bz_intersection(a: &[i16], b: &[i16], out: &mut [i16]) -> u64
+    ensures { λ r. ⌜ Combines Intersection (now (a .entry)) (now (b .entry)) (now (out .entry)) (now (out .exit)) r ⌝ }
+{
+    pack_joined(combine(Op::Intersection, a, b, out))
+}
+
+#[no_mangle]
+pub extern "C" fn bz_difference(a: &[i16], b: &[i16], out: &mut [i16]) -> u64
+    ensures { λ r. ⌜ Combines Difference (now (a .entry)) (now (b .entry)) (now (out .entry)) (now (out .exit)) r ⌝ }
+{
+    pack_joined(combine(Op::Difference, a, b, out))
 }
 
 // ---- gauges

@@ -3,6 +3,7 @@
 ghost use mathlib.Core.Path.{_≡_};
 ghost use Prim.Native.Nat.{_-_, _*_, _≤_};
 ghost use lib.Dec.{eqb};
+ghost use Rattle.plane.specs.Points.{isSegment};
 ghost use Rattle.plane.specs.Turns.{largestProduct};
 ghost use Rattle.plane.specs.Touching.{within, splits, touches};
 ghost use Rattle.plane.specs.Columns.{vertical, covers, reaches, countedFor, belowPoint, higher, holds, endsAt};
@@ -28,6 +29,12 @@ pub fn is_record(e: Record, r: Record) -> bool
     ensures { λ b. ⌜ b ≡ isRecord e r ⌝ }
 {
     points::is_same(r.dom, e.dom) & points::is_same(r.other, e.other) & is_mark(r.mark, e.mark)
+}
+
+pub fn is_segment(s: Segment, t: Segment) -> bool
+    ensures { λ b. ⌜ b ≡ isSegment s t ⌝ }
+{
+    points::is_same(t.a, s.a) & points::is_same(t.b, s.b)
 }
 
 fn is_mark(m: u16, n: u16) -> bool

@@ -4,6 +4,7 @@
 //! opinions and to how a chart or a file was made. The last line is 'N passed, M failed'.
 
 mod asking;
+mod bench;
 mod dice;
 mod judges;
 mod making;
@@ -11,22 +12,28 @@ mod progress;
 mod rules;
 mod tally;
 
-use judges::{charts, files, gauges, heads, nearest, tape};
+use judges::{charts, files, gauges, heads, joins, nearest, tape};
 use std::io::{stdout, BufWriter};
 use std::process::ExitCode;
 use tally::{close, Tally};
 
 const USAGE: &str = "usage:
-    judge charts|heads|gauges|files [COUNT [SEED]]   asks the boundary: listed questions, then COUNT drawn ones
-    judge all [COUNT [SEED]]                         all of these
-    judge nearest PROGRAM [COUNT [SEED]]             asks the program what the boundary does not offer
-    judge tape [COUNT [SEED]]                        writes COUNT questions with their answers to standard output
-COUNT is 20000 and SEED is 1 where they are not given.";
+    judge charts|heads|joins|gauges|files [COUNT [SEED]]   asks the boundary: listed questions, then COUNT drawn ones
+    judge all [COUNT [SEED]]                               all of these
+    judge nearest PROGRAM [COUNT [SEED]]                   asks the program what the boundary does not offer
+    judge tape [COUNT [SEED]]                              writes COUNT questions with their answers to standard output
+    judge bench-joins [COUNT]                              times COUNT joins of large charts, and judges no time
+COUNT is 20000, of joins 50, and SEED is 1 where they are not given.";
 
 type Judge = fn(usize, u64) -> Tally;
 
-const JUDGES: [(&str, Judge); 4] =
-    [("charts", charts::judge), ("heads", heads::judge), ("gauges", gauges::judge), ("files", files::judge)];
+const JUDGES: [(&str, Judge); 5] = [
+    ("charts", charts::judge),
+    ("heads", heads::judge),
+    ("joins", joins::judge),
+    ("gauges", gauges::judge),
+    ("files", files::judge),
+];
 
 /// How many questions are drawn, and the seed.
 fn numbers(words: &[&str]) -> Option<(usize, u64)> {
@@ -54,6 +61,8 @@ fn run(words: &[&str]) -> Option<bool> {
             let (count, seed) = numbers(rest)?;
             Some(write_tape(count, seed))
         }
+        ["bench-joins"] => Some(bench::joins(50)),
+        ["bench-joins", count] => Some(bench::joins(count.parse().ok().filter(|&count| count > 0)?)),
         [name, ref rest @ ..] => {
             let (count, seed) = numbers(rest)?;
             let meant = JUDGES.iter().filter(|(known, _)| name == *known || name == "all");

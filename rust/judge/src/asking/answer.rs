@@ -8,8 +8,8 @@ use std::ops::Range;
 
 #[derive(Clone, Debug, PartialEq)]
 pub enum Answer {
-    /// the refusal's number, and its index or place
-    Refused(u8, usize),
+    /// the refusal's number, its index or place, and the chart that it names, 0 where it names none
+    Refused(u8, usize, u8),
     Accepted,
     At(Place),
     /// by the places of its numbers in the array; 0..0 where it is empty
@@ -17,17 +17,17 @@ pub enum Answer {
     Head(Head),
     Area(i64),
     Read(Reading),
-    /// the numbers that a file gives
+    /// the numbers that are written: what a file gives, or what two charts joined are
     Records(Vec<i16>),
 }
 
 impl Answer {
     /// "Bits 0 to 31 the value, index or place; bits 32 to 47 the refusal's number, 0 where the question was answered;
-    /// bits 56 to 63 a kind. Every bit that a row below does not name is 0." Of a run bits 0 to 31 are its start and
-    /// bits 32 to 63 its length.
+    /// bits 48 to 55 the chart named (0, 1, 2); bits 56 to 63 a kind. Every bit that a row below does not name is 0."
+    /// Of a run bits 0 to 31 are its start and bits 32 to 63 its length.
     pub fn word(&self) -> u64 {
         match self {
-            Answer::Refused(number, index) => (*number as u64) << 32 | *index as u64,
+            Answer::Refused(number, index, chart) => (*chart as u64) << 48 | (*number as u64) << 32 | *index as u64,
             Answer::Run(run) => (run.len() as u64) << 32 | run.start as u64,
             Answer::At(Place::Inside) | Answer::Head(Head::First) => 1 << 56,
             Answer::At(Place::Edge) | Answer::Head(Head::Second) => 2 << 56,

@@ -19,6 +19,7 @@ pub enum Kind {
     Area,
     Reading,
     Records,
+    NoRecords,
     /// by its number
     Refused(u8),
 }
@@ -26,7 +27,7 @@ pub enum Kind {
 impl Kind {
     pub fn of(answer: &Answer) -> Self {
         match answer {
-            Answer::Refused(number, _) => Kind::Refused(*number),
+            Answer::Refused(number, ..) => Kind::Refused(*number),
             Answer::Accepted => Kind::Accepted,
             Answer::At(Place::Outside) => Kind::Outside,
             Answer::At(Place::Inside) => Kind::Inside,
@@ -38,6 +39,7 @@ impl Kind {
             Answer::Head(Head::Second) => Kind::SecondHead,
             Answer::Area(_) => Kind::Area,
             Answer::Read(_) => Kind::Reading,
+            Answer::Records(numbers) if numbers.is_empty() => Kind::NoRecords,
             Answer::Records(_) => Kind::Records,
         }
     }
@@ -58,6 +60,7 @@ impl Display for Kind {
             Kind::Area => "area",
             Kind::Reading => "reading",
             Kind::Records => "records",
+            Kind::NoRecords => "no records",
             Kind::Refused(number) => return f.pad(&format!("refused by {number}")),
         })
     }

@@ -25,7 +25,7 @@ impl Lent {
         match question {
             Question::Area { .. } => Lent::Area(AREA),
             Question::Gauge { .. } => Lent::Reading(READING),
-            Question::Read { room, .. } => Lent::Numbers(numbers(*room)),
+            Question::Read { room, .. } | Question::Join { room, .. } => Lent::Numbers(numbers(*room)),
             _ => Lent::Nothing,
         }
     }

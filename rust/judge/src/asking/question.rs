@@ -1,6 +1,7 @@
 //! What is asked at the boundary.
 
 use crate::rules::gauges::{Card, Reading};
+use crate::rules::joins::Op;
 use std::fmt::{Debug, Display, Formatter, Result as Shown};
 
 /// A question with its inputs.
@@ -11,6 +12,8 @@ pub enum Question<'a> {
     Corner { chart: &'a [i16], x: i16, y: i16 },
     Head { a: &'a [i16], b: &'a [i16] },
     Area { chart: &'a [i16] },
+    /// into an array of so many numbers
+    Join { op: Op, a: &'a [i16], b: &'a [i16], room: usize },
     Gauge { card: Card, sample: i16 },
     /// for an array of so many numbers
     Read { file: &'a [u8], room: usize },
@@ -55,6 +58,9 @@ impl Display for Question<'_> {
             Question::Corner { chart, x, y } => write!(f, "corner ({x}, {y}) of {}", shown(chart)),
             Question::Head { a, b } => write!(f, "smaller head of {} and {}", shown(a), shown(b)),
             Question::Area { chart } => write!(f, "twice the area of {}", shown(chart)),
+            Question::Join { op, a, b, room } => {
+                write!(f, "{op:?} of {} and {} into an array of {room} numbers", shown(a), shown(b))
+            }
             Question::Gauge { card, sample } => write!(f, "sample {sample} by a card of {card}"),
             Question::Read { file, room } => write!(f, "file {file:02x?} for an array of {room} numbers"),
         }

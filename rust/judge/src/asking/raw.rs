@@ -5,6 +5,7 @@ use super::framed::Framed;
 use super::lent::{numbers, Lent, AREA, READING};
 use super::question::Question;
 use crate::rules::gauges::Card;
+use crate::rules::joins::Op;
 use berzulka::raw::*;
 
 pub struct Outcome {
@@ -46,6 +47,19 @@ fn head(a: &[i16], b: &[i16]) -> Outcome {
     Outcome { word, lent: Lent::Nothing, is_kept: first.is_as(a) && second.is_as(b) }
 }
 
+fn join(op: Op, a: &[i16], b: &[i16], room: usize) -> Outcome {
+    let function = match op {
+        Op::Union => bz_union,
+        Op::Intersection => bz_intersection,
+        Op::Difference => bz_difference,
+    };
+    let (mut first, mut second, mut out) = (Framed::new(a), Framed::new(b), Framed::new(&numbers(room)));
+    let lent = out.array_mut().as_mut_ptr();
+    let word = unsafe { function(first.start(), a.len(), second.start(), b.len(), lent, room) };
+    let is_kept = first.is_as(a) && second.is_as(b) && out.has_margins();
+    Outcome { word, lent: Lent::Numbers(out.array().to_vec()), is_kept }
+}
+
 fn gauge(card: Card, sample: i16) -> Outcome {
     let mut reading = READING;
     let [first, second] = [card.first, card.second].map(f64::from_bits);
@@ -68,6 +82,7 @@ pub fn ask(question: &Question) -> Outcome {
         Question::Corner { chart, x, y } => about(chart, |start, length| unsafe { bz_corner(start, length, x, y) }),
         Question::Head { a, b } => head(a, b),
         Question::Area { chart } => area(chart),
+        Question::Join { op, a, b, room } => join(op, a, b, room),
         Question::Gauge { card, sample } => gauge(card, sample),
         Question::Read { file, room } => read(file, room),
     }

@@ -7,6 +7,7 @@ use super::question::Question;
 use crate::rules::chart::Place;
 use crate::rules::gauges::{Card, Reading};
 use crate::rules::heads::Head;
+use crate::rules::joins::Op;
 use berzulka::Refusal;
 use std::ptr::eq;
 
@@ -35,7 +36,9 @@ impl Told {
 fn told<T>(result: Result<T, Refusal>, answer: impl FnOnce(T) -> Option<Answer>) -> Option<Answer> {
     match result {
         Ok(value) => answer(value),
-        Err(refusal) => Some(Answer::Refused(u8::try_from(refusal.number()).ok()?, refusal.index())),
+        Err(refusal) => {
+            Some(Answer::Refused(u8::try_from(refusal.number()).ok()?, refusal.index(), refusal.chart()))
+        }
     }
 }
 
@@ -89,12 +92,32 @@ fn gauge(card: Card, sample: i16) -> Option<Told> {
     Some(Told { answer: told(berzulka::gauge(card, sample), reading), lent: Lent::Nothing, is_kept: true })
 }
 
+/// What was written into a lent array, by how many records it is said to be.
+fn written(result: Result<usize, Refusal>, out: &Framed<i16>, is_kept: bool) -> Told {
+    let all = out.array().to_vec();
+    let answer = told(result, |records| Some(Answer::Records(all.get(..5 * records)?.to_vec())));
+    Told { answer, lent: Lent::Numbers(all), is_kept: is_kept && out.has_margins() }
+}
+
+/// The wrapper's function for an operation.
+pub fn joining(op: Op) -> fn(&[i16], &[i16], &mut [i16]) -> Result<usize, Refusal> {
+    match op {
+        Op::Union => berzulka::union,
+        Op::Intersection => berzulka::intersection,
+        Op::Difference => berzulka::difference,
+    }
+}
+
+fn join(op: Op, a: &[i16], b: &[i16], room: usize) -> Told {
+    let (first, second, mut out) = (Framed::new(a), Framed::new(b), Framed::new(&numbers(room)));
+    let result = joining(op)(first.array(), second.array(), out.array_mut());
+    written(result, &out, first.is_as(a) && second.is_as(b))
+}
+
 fn read(file: &[u8], room: usize) -> Told {
     let (bytes, mut out) = (Framed::new(file), Framed::new(&numbers(room)));
     let result = berzulka::read(bytes.array(), out.array_mut());
-    let all = out.array().to_vec();
-    let answer = told(result, |records| Some(Answer::Records(all.get(..5 * records)?.to_vec())));
-    Told { answer, lent: Lent::Numbers(all), is_kept: bytes.is_as(file) && out.has_margins() }
+    written(result, &out, bytes.is_as(file))
 }
 
 /// What the wrapper answers, where its types can say the question.
@@ -105,6 +128,7 @@ pub fn ask(question: &Question) -> Option<Told> {
         Question::Corner { chart, x, y } => about(chart, |all| run(all, berzulka::corner(all, x, y))),
         Question::Head { a, b } => head(a, b),
         Question::Area { chart } => about(chart, |all| told(berzulka::area2(all), |v| Some(Answer::Area(v)))),
+        Question::Join { op, a, b, room } => join(op, a, b, room),
         Question::Gauge { card, sample } => return gauge(card, sample),
         Question::Read { file, room } => read(file, room),
     })

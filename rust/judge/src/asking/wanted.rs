@@ -6,6 +6,7 @@ use crate::rules::chart::{verdict, Chart};
 use crate::rules::files;
 use crate::rules::gauges::{reading, Card};
 use crate::rules::heads::smaller_head;
+use crate::rules::joins::{charts, fitted, result, Op, Refusal, OPS};
 use crate::rules::records::{run_at, Point};
 
 /// A question and the answer that is wanted.
@@ -29,7 +30,7 @@ impl<'a> Subject<'a> {
 
     /// What the chart answers, or its refusal.
     fn unless_refused(&self, answer: impl FnOnce(&Chart) -> Answer) -> Answer {
-        self.chart.as_ref().map_or(Answer::Refused(self.verdict.0, self.verdict.1), answer)
+        self.chart.as_ref().map_or(Answer::Refused(self.verdict.0, self.verdict.1, 0), answer)
     }
 
     pub fn check(&self) -> Asked<'a> {
@@ -58,12 +59,46 @@ pub fn head<'a>(a: &'a [i16], b: &'a [i16]) -> Asked<'a> {
     (Question::Head { a, b }, Answer::Head(smaller_head(a, b)))
 }
 
+/// Two accepted charts that do not touch, and what is made of them, in the order of `OPS`.
+pub struct Joint {
+    pub charts: [Chart; 2],
+    pub results: [Vec<i16>; 3],
+}
+
+/// Two arrays that are asked about as charts to be joined.
+pub struct Pair<'a> {
+    pub a: &'a [i16],
+    pub b: &'a [i16],
+    /// where they can be joined
+    pub joint: Result<Joint, Refusal>,
+}
+
+impl<'a> Pair<'a> {
+    pub fn new(a: &'a [i16], b: &'a [i16]) -> Self {
+        let joint = |charts: [Chart; 2]| Joint { results: OPS.map(|op| result(op, &charts)), charts };
+        Pair { a, b, joint: charts(a, b).map(joint) }
+    }
+
+    /// How many numbers a result has; those of the square, say, where the two cannot be joined.
+    pub fn length(&self, op: Op) -> usize {
+        self.joint.as_ref().map_or(40, |joint| joint.results[op as usize].len())
+    }
+
+    pub fn join(&self, op: Op, room: usize) -> Asked<'a> {
+        let joined = self.joint.as_ref().map_err(|&refusal| refusal);
+        let written = joined.and_then(|joint| fitted(&joint.results[op as usize], room));
+        let refused = |(number, index, chart)| Answer::Refused(number, index, chart);
+        let answer = written.map_or_else(refused, |numbers| Answer::Records(numbers.to_vec()));
+        (Question::Join { op, a: self.a, b: self.b, room }, answer)
+    }
+}
+
 pub fn gauge(card: Card, sample: i16) -> Asked<'static> {
-    let answer = reading(card, sample).map_or_else(|number| Answer::Refused(number, 0), Answer::Read);
+    let answer = reading(card, sample).map_or_else(|number| Answer::Refused(number, 0, 0), Answer::Read);
     (Question::Gauge { card, sample }, answer)
 }
 
 pub fn read(file: &[u8], room: usize) -> Asked<'_> {
-    let refused = |(number, place)| Answer::Refused(number, place);
+    let refused = |(number, place)| Answer::Refused(number, place, 0);
     (Question::Read { file, room }, files::read(file, room).map_or_else(refused, Answer::Records))
 }

@@ -16,7 +16,7 @@ use crate::tally::Tally;
 fn objection(file: &File, own: &Answer) -> Option<String> {
     let known = file.known.as_ref().map(|known| match known {
         Ok(numbers) => Answer::Records(numbers.clone()),
-        Err((number, place)) => Answer::Refused(*number, *place),
+        Err((number, place)) => Answer::Refused(*number, *place, 0),
     });
     if let Some(known) = known.filter(|known| known != own) {
         return Some(format!("{own:?}, made as {known:?}: {:02x?}, room {}", file.bytes, file.room));

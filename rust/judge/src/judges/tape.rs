@@ -3,14 +3,16 @@
 
 use crate::asking::lent::Lent;
 use crate::asking::question::Question;
-use crate::asking::wanted::{gauge, head, read, Asked, Subject};
+use crate::asking::wanted::{gauge, head, read, Asked, Pair, Subject};
 use crate::dice::Dice;
 use crate::making::damages::damages;
 use crate::making::drafts::draft;
+use crate::making::drawn_pairs::{self, room_for};
 use crate::making::points::point_for;
-use crate::making::{cards, examples, files, floats, small};
+use crate::making::{cards, examples, files, floats, long_pairs, pairs, small};
 use crate::progress::told;
 use crate::rules::gauges::Card;
+use crate::rules::joins::OPS;
 use crate::rules::records::Point;
 use std::io::{Result, Write};
 
@@ -47,6 +49,7 @@ fn put(question: &Question) -> (Front, Vec<u8>, Vec<u8>) {
         Question::Corner { chart, x, y } => (Front { x, y, ..front(b'r') }, bytes_of(chart), vec![]),
         Question::Head { a, b } => (front(b'h'), bytes_of(a), bytes_of(b)),
         Question::Area { chart } => (front(b'a'), bytes_of(chart), vec![]),
+        Question::Join { op, a, b, .. } => (front(b"uid"[op as usize]), bytes_of(a), bytes_of(b)),
         Question::Gauge { card: Card { kind, first, second }, sample } => {
             (Front { kind, x: sample, first, second, ..front(b'g') }, vec![], vec![])
         }
@@ -76,12 +79,33 @@ fn about(numbers: &[i16], p: Point) -> [Entry; 5] {
     asked.map(|asked| entry(&asked))
 }
 
-/// The papers' examples, a chart refused by each number, and cards of no kind.
+/// What is made of two arrays, each into an array of a length that is given for a result of so many numbers.
+fn joined(a: &[i16], b: &[i16], mut room: impl FnMut(usize) -> usize) -> Vec<Entry> {
+    let pair = Pair::new(a, b);
+    OPS.map(|op| entry(&pair.join(op, room(pair.length(op))))).to_vec()
+}
+
+/// Listed pairs into arrays that are longer than the result, a few and long ones into short arrays; a damaged chart on
+/// either side and on both.
+fn listed_joins(damaged: &[&[i16]]) -> Vec<Entry> {
+    let known = pairs::examples().into_iter().flat_map(|pair| joined(&pair.a, &pair.b, |length| length + 3));
+    let short = pairs::examples().into_iter().take(3).flat_map(|pair| joined(&pair.a, &pair.b, |length| length / 2));
+    let long = long_pairs::long().into_iter().take(4).flat_map(|pair| joined(&pair.a, &pair.b, |_| 40));
+    let (_, square) = small::charts().swap_remove(0);
+    let refused = damaged.iter().flat_map(|numbers| {
+        let on_sides = [(*numbers, &square[..]), (&square, numbers), (numbers, &[0])];
+        on_sides.map(|(a, b)| joined(a, b, |length| length).swap_remove(0))
+    });
+    known.chain(short).chain(long).chain(refused).collect()
+}
+
+/// The papers' examples, a chart refused by each number, listed pairs, and cards of no kind.
 fn listed() -> Vec<Entry> {
     let (_, square) = small::charts().swap_remove(0);
     let all = damages(&square);
     let refused = |number: u8| all.iter().find(|damaged| damaged.known.is_some_and(|known| known.0 == number));
-    let by_numbers = (1..=9).filter_map(refused).flat_map(|damaged| about(&damaged.numbers, (0, 0)));
+    let damaged: Vec<&[i16]> = (1..=9).filter_map(refused).map(|damaged| &damaged.numbers[..]).collect();
+    let by_numbers = damaged.iter().flat_map(|numbers| about(numbers, (0, 0)));
     let charts = examples::all().into_iter().flat_map(|example| {
         let p = example.places.first().map_or((0, 0), |place| place.0);
         about(&example.numbers, p)
@@ -89,10 +113,10 @@ fn listed() -> Vec<Entry> {
     let gauges = cards::examples().into_iter().map(|(card, sample, _)| entry(&gauge(card, sample)));
     let no_cards = floats::no_cards().step_by(100).map(|card| entry(&gauge(card, 1)));
     let files = files::examples().into_iter().map(|file| entry(&read(&file.bytes, file.room)));
-    by_numbers.chain(charts).chain(gauges).chain(no_cards).chain(files).collect()
+    by_numbers.chain(charts).chain(gauges).chain(no_cards).chain(files).chain(listed_joins(&damaged)).collect()
 }
 
-/// A chart with a point, two arrays, a sample by a card, a file.
+/// A chart with a point, two arrays, two charts to be joined, a sample by a card, a file.
 fn drawn(dice: &mut Dice) -> Vec<Entry> {
     let draft = draft(dice);
     let p = point_for(dice, &draft);
@@ -100,7 +124,9 @@ fn drawn(dice: &mut Dice) -> Vec<Entry> {
     let card = dice.card();
     let (samples, file) = (dice.samples(card), dice.file());
     let others = [head(&a, &b), gauge(card, *dice.pick(&samples)), read(&file.bytes, file.room)];
-    about(&draft.numbers, p).into_iter().chain(others.iter().map(entry)).collect()
+    let entries = about(&draft.numbers, p).into_iter().chain(others.iter().map(entry));
+    let pair = drawn_pairs::drawn(dice);
+    entries.chain(joined(&pair.a, &pair.b, |length| room_for(dice, length))).collect()
 }
 
 /// Writes so many questions.

@@ -23,7 +23,7 @@ pub fn has(pieces: &[Piece], p: Point) -> bool {
 }
 
 /// The ways along the sides of a piece, the inside on the left.
-fn ways(piece: &Piece) -> impl Iterator<Item = Way> + '_ {
+pub fn ways(piece: &Piece) -> impl Iterator<Item = Way> + '_ {
     (0..piece.len()).map(|i| (piece[i], piece[(i + 1) % piece.len()]))
 }
 
@@ -54,34 +54,40 @@ fn ladder(dice: &mut Dice, n: usize) -> Vec<i128> {
     (0..n as i128).map(|i| start + i * step).collect()
 }
 
-/// Coloured cells, at most so many: a chequered board, rings within rings, or by chance.
-fn cells(dice: &mut Dice, most: u64) -> Vec<Piece> {
+/// All cells, at most so many, by their columns, and how many columns and rows there are.
+pub fn board(dice: &mut Dice, most: u64) -> (usize, usize, Vec<Piece>) {
     let w = 1 + dice.roll(most.min(16)) as usize;
     let h = 1 + dice.roll((most / w as u64).clamp(1, 16)) as usize;
     let (xs, ys) = (ladder(dice, w + 1), ladder(dice, h + 1));
+    let cell = |i: usize, j: usize| {
+        let (a, b, c, d) = (xs[i], xs[i + 1], ys[j], ys[j + 1]);
+        vec![(a, c), (b, c), (b, d), (a, d)]
+    };
+    (w, h, (0..w * h).map(|n| cell(n / h, n % h)).collect())
+}
+
+/// Coloured cells, at most so many: a chequered board, rings within rings, or by chance.
+fn cells(dice: &mut Dice, most: u64) -> Vec<Piece> {
+    let (w, h, all) = board(dice, most);
     let kind = dice.roll(5);
-    let mut pieces = vec![];
-    for (i, j) in (0..w).flat_map(|i| (0..h).map(move |j| (i, j))) {
+    let mut is_inside = |n: usize| {
+        let (i, j) = (n / h, n % h);
         let from_rim = i.min(j).min(w - 1 - i).min(h - 1 - j);
-        let is_inside = match kind {
+        match kind {
             0 => (i + j) % 2 == 0,
             1 => from_rim % 2 == 0,
             2 => dice.roll(4) > 0,
             3 => dice.roll(4) == 0,
             _ => dice.roll(2) == 0,
-        };
-        if is_inside {
-            let (a, b, c, d) = (xs[i], xs[i + 1], ys[j], ys[j + 1]);
-            pieces.push(vec![(a, c), (b, c), (b, d), (a, d)]);
         }
-    }
-    pieces
+    };
+    all.into_iter().enumerate().filter(|(n, _)| is_inside(*n)).map(|(_, cell)| cell).collect()
 }
 
 // ---- triangles that fill what random points span
 
 /// Points in a small square or a larger one, or over the grid and its four corners.
-fn scattered(dice: &mut Dice, n: u64) -> BTreeSet<Point> {
+pub fn scattered(dice: &mut Dice, n: u64) -> BTreeSet<Point> {
     let side = *dice.pick(&[3, 6, 40, 65536]);
     let corner = if side == 65536 { LEAST } else { dice.roll(9) as i128 - 5 };
     let mut all: BTreeSet<Point> = (0..n)
@@ -93,13 +99,14 @@ fn scattered(dice: &mut Dice, n: u64) -> BTreeSet<Point> {
     all
 }
 
-fn turn(a: Point, b: Point, c: Point) -> i128 {
+/// Positive where the way from a to b turns left onto the way from a to c.
+pub fn turn(a: Point, b: Point, c: Point) -> i128 {
     determinant(direction(a, b), direction(a, c))
 }
 
 /// Triangles that fill what the points span. Points come in their order, so each is outside of what those before it
 /// span, and is joined to every side of that which it sees.
-fn triangulated(points: &[Point]) -> Vec<Piece> {
+pub fn triangulated(points: &[Point]) -> Vec<Piece> {
     let Some(first) = (2..points.len()).find(|&i| turn(points[0], points[1], points[i]) != 0) else { return vec![] };
     // the points before the first that makes a turn are in line; the rim goes counter-clockwise
     let mut rim: Vec<Point> = points[..first].to_vec();
@@ -133,19 +140,26 @@ fn triangles(dice: &mut Dice, most: u64) -> Vec<Piece> {
     triangulated(&points).into_iter().filter(|piece| is_inside(piece)).collect()
 }
 
-/// Triangles as thin as the grid allows, on one side of a segment or on both.
-fn slivers(dice: &mut Dice) -> Vec<Piece> {
+/// Triangles as thin as the grid allows, on both sides of a segment.
+pub fn both_slivers(dice: &mut Dice) -> Vec<Piece> {
     let (a, b) = ((dice.number() as i128, dice.number() as i128), (dice.number() as i128, dice.number() as i128));
     let Some((left, right)) = beside((a, b)) else { return vec![] };
-    let mut all = vec![vec![a, b, left], vec![b, a, right]];
-    all.truncate(1 + dice.roll(2) as usize);
+    vec![vec![a, b, left], vec![b, a, right]]
+}
+
+/// One of them, or both.
+fn slivers(dice: &mut Dice) -> Vec<Piece> {
+    let mut all = both_slivers(dice);
+    if !all.is_empty() {
+        all.truncate(1 + dice.roll(2) as usize);
+    }
     all
 }
 
 // ---- any region
 
 /// Mirrored, turned, sheared or moved; as it is where it would leave the grid.
-fn moved(dice: &mut Dice, pieces: Vec<Piece>) -> Vec<Piece> {
+pub fn moved(dice: &mut Dice, pieces: Vec<Piece>) -> Vec<Piece> {
     let (a, b) = (dice.roll(7) as i128 - 3, dice.roll(7) as i128 - 3);
     let (c, d) = (dice.roll(20000) as i128 - 10000, dice.roll(65536) as i128 + LEAST);
     let kind = dice.roll(8);

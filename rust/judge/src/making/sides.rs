@@ -3,9 +3,8 @@
 use super::grid::{along, steps, Way};
 use crate::dice::Dice;
 use crate::rules::chart::Chart;
-use crate::rules::records::{comes_first, determinant, direction, record_of, smaller, Point};
+use crate::rules::records::{determinant, direction, order, record_of, smaller, Point};
 use crate::rules::segments::Segment;
-use std::cmp::Ordering;
 
 /// A segment with its mark.
 #[derive(Clone, Copy)]
@@ -25,11 +24,7 @@ pub fn side_of((from, to): Way) -> Side {
 /// The records of an array in their order; what is left over at its end stays there.
 pub fn ordered(numbers: &[i16]) -> Vec<i16> {
     let mut records: Vec<&[i16]> = numbers.chunks_exact(5).collect();
-    records.sort_by(|r, e| match (record_of(r), record_of(e)) {
-        (r, e) if comes_first(r, e) => Ordering::Less,
-        (r, e) if comes_first(e, r) => Ordering::Greater,
-        _ => Ordering::Equal,
-    });
+    records.sort_by(|r, e| order(record_of(r), record_of(e)));
     let left_over = numbers.chunks_exact(5).remainder();
     records.into_iter().chain([left_over]).flatten().copied().collect()
 }

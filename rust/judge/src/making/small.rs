@@ -5,11 +5,11 @@ use super::sides::walked;
 use crate::rules::records::{record_of, Point};
 
 /// A square by its lower left corner and its side, the inside on the left.
-fn square(x: i128, y: i128, side: i128) -> Vec<Point> {
+pub fn square(x: i128, y: i128, side: i128) -> Vec<Point> {
     vec![(x, y), (x + side, y), (x + side, y + side), (x, y + side)]
 }
 
-fn turned(mut walk: Vec<Point>) -> Vec<Point> {
+pub fn turned(mut walk: Vec<Point>) -> Vec<Point> {
     walk.reverse();
     walk
 }

@@ -6,6 +6,7 @@ pub mod exact;
 pub mod files;
 pub mod gauges;
 pub mod heads;
+pub mod joins;
 pub mod records;
 pub mod second;
 pub mod segments;

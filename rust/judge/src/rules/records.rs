@@ -1,5 +1,6 @@
 //! Document 01's rules for points, records, their order and the run at a corner, from its sentences, in wide integers.
 
+use std::cmp::Ordering;
 use std::ops::Range;
 
 pub type Point = (i128, i128);
@@ -48,6 +49,11 @@ pub fn comes_first(r: Record, e: Record) -> bool {
         return d > 0;
     }
     length_squared(r) < length_squared(e)
+}
+
+/// The same order, to sort by.
+pub fn order(r: Record, e: Record) -> Ordering {
+    comes_first(e, r).cmp(&comes_first(r, e))
 }
 
 pub fn record_of(numbers: &[i16]) -> Record {

@@ -51,6 +51,15 @@ pub fn mark(chart: &Chart, s: Segment) -> i16 {
     ((left_of(chart, middle) + left_is_below) % 2) as i16
 }
 
+/// Whether the upper side of a segment that touches none of the chart's, or the left of a vertical one, is inside. One
+/// that the chart has not got is inside, all of it and on both sides, where its middle is.
+pub fn has_upper_side(chart: &Chart, s: Segment) -> bool {
+    if chart.segments.contains(&s) {
+        return mark(chart, s) == 1;
+    }
+    left_of(chart, (s.left.0 + s.right.0, s.left.1 + s.right.1)) % 2 == 1
+}
+
 /// Document 01's count for the mark of a segment that is not vertical, with 'just right of x' a step of 1 / 2^60: two
 /// heights at x that differ are at least 1 / 2^32 apart, and no two slopes differ by more than 2^17.
 pub fn stepped_mark(chart: &Chart, s: Segment) -> i16 {

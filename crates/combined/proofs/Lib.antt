@@ -1,0 +1,17 @@
+pub mod Overlay
+pub mod OwnLaws
+pub mod OverStripLaws
+pub mod OutlineLaws
+pub mod VerticalLaws
+pub mod EvenLaws
+pub mod UpperLaws
+pub mod EndsLaws
+pub mod Laid
+pub mod EitherLaws
+pub mod OverlayLaws
+pub mod OrderedLaws
+pub mod KeptLaws
+pub mod ResultLaws
+pub mod NumberLaws
+pub mod SoundLaws
+pub mod PlaceLaws

@@ -1,0 +1,3 @@
+pub mod Kept
+pub mod Results
+pub mod Together

@@ -1,0 +1,10 @@
+pub mod SideLaws
+pub mod KeptLaws
+pub mod PutLaws
+pub mod StepLaws
+pub mod HeadLaws
+pub mod RestLaws
+pub mod WriteLaws
+pub mod MarkLaws
+pub mod JoinLaws
+pub mod OutcomeLaws

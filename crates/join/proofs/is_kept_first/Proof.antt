@@ -1,0 +1,9 @@
+-- `is_kept_first` meets its contract. Assumes nothing.
+use borrow.Author.Needs.{needs}
+use Rattle.join.proofs.SideLaws.{keptFirst-is}
+use Rattle.join.proofs.is_kept_first.Statement.{statement}
+use Rattle.join.proofs.is_kept_first.Tie as tie
+
+pub is-kept-first-spec : {M : Type 1} → statement M
+is-kept-first-spec =
+    tie.close (tie.spec (λ c κs. search needs) (λ c κs. search needs) (λ c. search (needs, keptFirst-is)))
