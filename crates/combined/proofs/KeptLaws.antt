@@ -4,9 +4,8 @@
 --     remarked-count         so marking afresh changes no count of segments
 --     keptSegments f cs      the segments of the charts that are kept
 --     kept-count, ordered-count, result-count    records counted by their segments: kept, put in order, marked
---     ordered-any, result-any                    whether some passes
+--     result-any                                 whether some passes
 --     segments-result, segments-result-mem       the segments of the result: as often, and which
---     markCount-result                           the count by which they are marked
 -- Assumes nothing.
 use mathlib.Core.Path.{_≡_, refl, sym, ap, _∙_}
 use mathlib.Core.Logic.{_↔_}
@@ -19,12 +18,10 @@ use Rattle.counts.proofs.MapLaws.{count-map}
 use Rattle.counts.proofs.TallyLaws.{any-count, mem-count}
 use Rattle.plane.specs.declared.Segment.{Segment}
 use Rattle.plane.specs.Points.{isSegment}
-use Rattle.plane.specs.Columns.{countedFor}
 use Rattle.plane.proofs.PointLaws.{isSegment-true, isSegment-refl}
 use Rattle.record.specs.declared.Record.{Record}
 use Rattle.record.specs.Order.{left}
 use Rattle.segment.specs.Segments.{segment, ofSegment}
-use Rattle.among.specs.Among.{markCount}
 use Rattle.region.proofs.ChartLaws.{segments, ofSegment-count}
 use Rattle.combined.specs.Kept.{keeps, either, kept}
 use Rattle.combined.specs.Results.{inOrder, withMark, remarked, result}
@@ -69,9 +66,6 @@ module _ (f : List Bool → Bool) (cs : List (List Record)) where
     pub result-count : count (ofSegment q) (result f cs) ≡ count q keptSegments
     result-count = remarked-count q (inOrder (kept f cs)) ∙ ordered-count
 
-    pub ordered-any : any (ofSegment q) (inOrder (kept f cs)) ≡ any q keptSegments
-    ordered-any = any-count (ofSegment q) q (inOrder (kept f cs)) keptSegments ordered-count
-
     pub result-any : any (ofSegment q) (result f cs) ≡ any q keptSegments
     result-any = any-count (ofSegment q) q (result f cs) keptSegments result-count
 
@@ -84,6 +78,3 @@ module _ (f : List Bool → Bool) (cs : List (List Record)) where
     mem-count isSegment isSegment-true isSegment-refl keptSegments (segments (result f cs))
         (λ q. sym (segments-result q)) t,
   )
-
-  pub markCount-result : (s : Segment) → markCount (inOrder (kept f cs)) s ≡ count (countedFor s) keptSegments
-  markCount-result s = ordered-count (countedFor s)

@@ -1,4 +1,4 @@
-// Gauges: document 01's examples, and cards and samples at the edges of its rules. A pressure is told by its bits.
+// Gauges: document 01's examples, and a card that breaks a rule. A pressure is told by its bits.
 use crate::say;
 use gauge::Card;
 
@@ -13,20 +13,6 @@ fn about_bridges() {
     say_bridge(b"gain 2, zero 0, sample 16384", 2.0, 0.0, 16384);
     say_bridge(b"gain 1, zero 1, sample -32768", 1.0, 1.0, -32768);
     say_bridge(b"gain 0.5, zero 0, sample -1", 0.5, 0.0, -1);
-    say_bridge(b"gain 1, zero 0.5, sample -32768", 1.0, 0.5, -32768);
-    say_bridge(
-        b"gain 1/256, zero 65536, sample 32767",
-        0.00390625,
-        65536.0,
-        32767,
-    );
-    say_bridge(
-        b"gain 1/256, zero -32640, sample 32767",
-        0.00390625,
-        -32640.0,
-        32767,
-    );
-    say_bridge(b"gain 256, zero -65536, sample -128", 256.0, -65536.0, -128);
     say_bridge(b"gain 1, zero -0, sample 0", 1.0, -0.0, 0);
 }
 
@@ -34,51 +20,11 @@ fn about_springs() {
     say_spring(b"rate 1, pin 1000, sample 999", 1.0, 1000.0, 999);
     say_spring(b"rate 1, pin 1000, sample 1000", 1.0, 1000.0, 1000);
     say_spring(b"rate 1, pin 1000, sample -1", 1.0, 1000.0, -1);
-    say_spring(
-        b"rate 1/256, pin 1/256, sample 0",
-        0.00390625,
-        0.00390625,
-        0,
-    );
-    say_spring(
-        b"rate 1/256, pin 1/256, sample 1",
-        0.00390625,
-        0.00390625,
-        1,
-    );
-    say_spring(b"rate 256, pin 65536, sample 127", 256.0, 65536.0, 127);
-    say_spring(
-        b"rate 256, pin 65536, sample 128, off the grid",
-        256.0,
-        65536.0,
-        128,
-    );
-    say_spring(
-        b"rate 256, pin 65536, sample 256, at the pin as well",
-        256.0,
-        65536.0,
-        256,
-    );
 }
 
 fn about_rules() {
     say_bridge(b"gain 3", 3.0, 0.0, 0);
-    say_bridge(b"gain 512", 512.0, 0.0, 0);
-    say_bridge(b"gain 1/512", 0.001953125, 0.0, 0);
-    say_bridge(b"gain -1", -1.0, 0.0, 0);
-    say_bridge(b"gain -0", -0.0, 0.0, 0);
-    say_bridge(b"zero 65536 and 1/256", 1.0, 65536.00390625, 0);
-    say_bridge(b"zero 1/512", 1.0, 0.001953125, 0);
-    say_spring(b"pin 0", 1.0, 0.0, 0);
     say_bridge(b"a gain that is no number", 0.0 / 0.0, 0.0, 0);
-    say_bridge(b"a zero that is no number", 1.0, 0.0 / 0.0, 0);
-    say_spring(b"an infinite pin", 1.0, 1.0 / 0.0, 0);
-    say_spring(
-        b"an infinite rate, and a negative sample",
-        1.0 / 0.0,
-        1000.0,
-        -1,
-    );
 }
 
 fn say_spring(text: &[u8], rate: f64, pin: f64, sample: i16) {

@@ -1,14 +1,14 @@
-// What the library answers on document 01's bench examples and at the edges of the check, one line each. The gate
-// compares the lines with the file stdout.
+// What the library answers on document 01's bench examples and at the limit, one line each. The gate compares the lines
+// with the file stdout. (Every refusal, at every record and two at once, is the judge's to ask: rust/judge.)
 mod gauges;
 
 use area::Area;
 use chart::Refusal;
 use chart::Verdict;
 use join::Joined;
-use join::Op;
 use nearest::Nearest;
 use question::Place;
+use sides::Op;
 
 fn main() {
     about_square(&square());
@@ -18,10 +18,6 @@ fn main() {
     about_triangle(&large_triangle());
     about_wedge(&wedge());
     about_lengths(&row());
-    about_zeros(&[0i16; 200000]);
-    first_faults();
-    two_faults();
-    two_kinds();
     gauges::about_gauges();
 }
 
@@ -369,92 +365,6 @@ fn wedge() -> [i16; 30] {
     ]
 }
 
-// The square and another from (2,2) to (6,6), which it crosses.
-fn crossing_squares() -> [i16; 80] {
-    [
-        0,
-        0,
-        4,
-        0,
-        1,
-        0,
-        0,
-        0,
-        4,
-        0,
-        0,
-        4,
-        0,
-        0,
-        0,
-        0,
-        4,
-        4,
-        4,
-        0,
-        2,
-        2,
-        6,
-        2,
-        0,
-        2,
-        2,
-        2,
-        6,
-        1,
-        2,
-        6,
-        2,
-        2,
-        1,
-        2,
-        6,
-        6,
-        6,
-        0,
-        4,
-        0,
-        0,
-        0,
-        1,
-        4,
-        0,
-        4,
-        4,
-        1,
-        4,
-        4,
-        0,
-        4,
-        0,
-        4,
-        4,
-        4,
-        0,
-        1,
-        6,
-        2,
-        2,
-        2,
-        0,
-        6,
-        2,
-        6,
-        6,
-        1,
-        6,
-        6,
-        2,
-        6,
-        0,
-        6,
-        6,
-        6,
-        2,
-        1,
-    ]
-}
-
 // A square of side 2, its numbers counted from 0.
 fn small_square() -> [u16; 40] {
     [
@@ -636,97 +546,4 @@ fn say_lengths(text: &[u8], s: &[i16], n: usize) {
         say_nearest(b"nearest below (253,9) in it", part, 253, 9);
         say_corner(b"its run at (252,0)", part, 252, 0);
     }
-}
-
-// An array far past the limit is turned away before a record of it is looked at.
-fn about_zeros(s: &[i16]) {
-    say_lengths(b"200,000 numbers", s, 200000);
-    say_lengths(b"one less", s, 199999);
-    say_lengths(b"five zeros", s, 5);
-}
-
-// ---- each refusal, at the first record at fault
-
-fn put(s: &mut [i16], i: usize, v: i16) {
-    if i < s.len() {
-        s[i] = v;
-    }
-}
-
-// Four numbers of the square changed: where, and to what.
-fn say_changed(
-    text: &[u8],
-    i: usize,
-    v: i16,
-    j: usize,
-    w: i16,
-    k: usize,
-    x: i16,
-    l: usize,
-    y: i16,
-) {
-    let mut s = square();
-    put(&mut s, i, v);
-    put(&mut s, j, w);
-    put(&mut s, k, x);
-    put(&mut s, l, y);
-    say_verdict(text, &s);
-}
-
-fn first_faults() {
-    say_changed(b"equal ends at 2 and 5", 12, 0, 13, 4, 27, 4, 28, 0);
-    say_changed(b"marks 2 and -1 at 1 and 4", 9, 2, 24, -1, 24, -1, 24, -1);
-    say_changed(b"the first two records swapped", 2, 0, 3, 4, 7, 4, 8, 0);
-    say_verdict(b"crossing squares", &crossing_squares());
-    say_verdict(b"one segment alone", &[0, 0, 4, 0, 1, 4, 0, 0, 0, 1]);
-    say_verdict(b"one record alone", &[0, 0, 4, 0, 1]);
-}
-
-fn two_faults() {
-    say_changed(
-        b"other halves missing of 0, 4, 5 and 7",
-        4,
-        0,
-        39,
-        0,
-        39,
-        0,
-        39,
-        0,
-    );
-    say_changed(b"bottom and top marked wrongly", 4, 0, 24, 0, 19, 1, 34, 1);
-    say_verdict(
-        b"a record twice, with another mark",
-        &[0, 0, 4, 0, 1, 0, 0, 4, 0, 0],
-    );
-}
-
-fn two_kinds() {
-    say_changed(b"mark 2 at 0, equal ends at 5", 4, 2, 27, 4, 28, 0, 28, 0);
-    say_changed(
-        b"mark 2 at 1, the other half of 5 missing",
-        9,
-        2,
-        39,
-        0,
-        39,
-        0,
-        39,
-        0,
-    );
-    say_changed(
-        b"equal ends at 7, a number of marks wrong",
-        37,
-        4,
-        38,
-        4,
-        4,
-        0,
-        24,
-        0,
-    );
-    let mut crossed = crossing_squares();
-    crossed[4] = 0;
-    crossed[44] = 0;
-    say_verdict(b"crossing squares, the bottom marked wrongly", &crossed);
 }

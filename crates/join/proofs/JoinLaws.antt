@@ -2,9 +2,10 @@
 -- `outcomes` has them all. A bound l is any that refuses no more, so that a wrong one is refused for what it lets
 -- through.
 --     accepted-region     what the check accepts is a region
+--     touchesIn-is        a record of the first chart touches the second
 -- Assumes nothing.
 use mathlib.Core.Path.{_≡_, refl, sym, ap, _∙_}
-use mathlib.Core.Bool.{true, false}
+use mathlib.Core.Bool.{Bool, true, false}
 use mathlib.Core.List.{List}
 use Prim.Native.Nat.{ℕ, _*_, _<_, _≤_}
 use native.Mathlib.Omega.{arith}
@@ -13,20 +14,28 @@ use lib.IntN.{ℤ}
 use lib.ListN.{length}
 use borrow.Author.Tests.{lt-ltb, le-ltb}
 use Rattle.counts.specs.Scan.{Found}
-use Rattle.record.specs.Records.{width, recordAt, recordCount}
+use Rattle.plane.specs.declared.Segment.{Segment}
+use Rattle.record.specs.declared.Record.{Record}
+use Rattle.record.specs.Records.{width, recordAt, recordCount, records}
+use Rattle.segment.specs.Segments.{segment}
+use Rattle.among.specs.Among.{touched}
 use Rattle.chart.specs.declared.Refusal.{Refusal}
 use Rattle.chart.specs.declared.Verdict.{Verdict}
 use Rattle.chart.specs.declared.Verdict.the-variants as verdict
 use Rattle.chart.specs.Verdicts.{limit, verdict}
 use Rattle.chart.specs.Regions.{Region}
 use Rattle.chart.proofs.RegionLaws.{accepted-is}
-use Rattle.join.specs.declared.Op.{Op}
+use Rattle.sides.specs.declared.Op.{Op}
 use Rattle.join.specs.declared.Joined.{Joined}
 use Rattle.join.specs.declared.Joined.the-variants.{Records, Refused}
 use Rattle.join.specs.Joinings.{resultOf, touchesIn, firstTouching, Outcome, joined, noneNamed}
 use Rattle.join.specs.Joinings.{joinedIn, outcome, answerOf, contents, Gives, Joins}
 use Rattle.join.specs.Steps.{Sized, written, SoundJoins}
 use Rattle.join.proofs.MarkLaws.{marks-afresh}
+
+pub touchesIn-is : (b : List ℤ) (r : Record) {t : Segment} {k : Bool} → t ≡ segment r → k ≡ touched (records b) t
+    → k ≡ touchesIn b r
+touchesIn-is b r is e = e ∙ ap (touched (records b)) is
 
 -- ---- what is joined, case by case
 

@@ -1,5 +1,4 @@
-pub mod SideLaws
-pub mod KeptLaws
+pub mod SizeLaws
 pub mod PutLaws
 pub mod StepLaws
 pub mod HeadLaws

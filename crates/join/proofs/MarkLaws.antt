@@ -26,10 +26,12 @@ use Rattle.chart.proofs.HalvesLaws.{left-half, touching-off}
 use Rattle.chart.proofs.OnceLaws.{sound-proper}
 use Rattle.combined.specs.Together.{Together}
 use Rattle.combined.proofs.SoundLaws.{sides-marked}
-use Rattle.join.specs.declared.Op.{Op}
-use Rattle.join.specs.declared.Op.the-variants.{Union, Intersection, Difference}
-use Rattle.join.specs.Joinings.{joining, resultOf, touchesIn, firstTouching}
-use Rattle.join.specs.Steps.{sideMarked, sideResult}
+use Rattle.sides.specs.declared.Op.{Op}
+use Rattle.sides.specs.declared.Op.the-variants.{Union, Intersection, Difference}
+use Rattle.sides.specs.Operations.{joining}
+use Rattle.join.specs.Joinings.{resultOf, touchesIn, firstTouching}
+use Rattle.sides.specs.Kept.{sideMarked}
+use Rattle.join.specs.Steps.{sideResult}
 
 -- the test is the same from the other chart
 touched-back : {rs es : List Record} → Sound es → ((r : Record) → r ∈ rs → touched es (segment r) ≡ false)

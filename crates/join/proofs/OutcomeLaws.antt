@@ -36,7 +36,7 @@ use Rattle.chart.specs.Regions.{Region}
 use Rattle.chart.proofs.RegionLaws.{accepted-is}
 use Rattle.combined.specs.Results.{numbers}
 use Rattle.combined.proofs.NumberLaws.{numbers-length}
-use Rattle.join.specs.declared.Op.{Op}
+use Rattle.sides.specs.declared.Op.{Op}
 use Rattle.join.specs.declared.Joined.{Joined}
 use Rattle.join.specs.declared.Joined.the-variants.{Records, Refused}
 use Rattle.join.specs.Joinings.{firstTouching, resultOf, Outcome, joined, refused, noneNamed, unlessRefused}

@@ -27,10 +27,10 @@ use Rattle.chart.specs.Regions.{Region}
 use Rattle.combined.specs.Kept.{kept}
 use Rattle.combined.specs.Results.{inOrder}
 use Rattle.combined.proofs.OrderedLaws.{inOrder-first, inOrder-second}
-use Rattle.join.specs.declared.Op.{Op}
-use Rattle.join.specs.Joinings.{joining, both}
-use Rattle.join.specs.Steps.{keptFirst, keptSecond}
-use Rattle.join.proofs.KeptLaws.{kept-both}
+use Rattle.sides.specs.declared.Op.{Op}
+use Rattle.sides.specs.Operations.{joining, both}
+use Rattle.sides.specs.Kept.{keptFirst, keptSecond}
+use Rattle.join.proofs.SizeLaws.{kept-both}
 use Rattle.join.proofs.HeadLaws.{head-first, head-second, own-later, first-least, second-least}
 
 -- ---- of one chart

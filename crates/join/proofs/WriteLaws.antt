@@ -26,10 +26,12 @@ use Rattle.chart.specs.Regions.{Region}
 use Rattle.combined.specs.Kept.{kept}
 use Rattle.combined.specs.Results.{inOrder}
 use Rattle.combined.proofs.OrderedLaws.{inOrder-length}
-use Rattle.join.specs.declared.Op.{Op}
-use Rattle.join.specs.Joinings.{joining, both, resultOf}
-use Rattle.join.specs.Steps.{keptFirst, keptSecond, sideMarked, written, Room, TookFirst, TookSecond}
-use Rattle.join.proofs.KeptLaws.{result-length}
+use Rattle.sides.specs.declared.Op.{Op}
+use Rattle.sides.specs.Operations.{joining, both}
+use Rattle.join.specs.Joinings.{resultOf}
+use Rattle.sides.specs.Kept.{keptFirst, keptSecond, sideMarked}
+use Rattle.join.specs.Steps.{written, Room, TookFirst, TookSecond}
+use Rattle.join.proofs.SizeLaws.{result-length}
 use Rattle.join.proofs.StepLaws.{Ahead, ahead-all, ahead-none, ahead-room, ahead-next}
 use Rattle.join.proofs.HeadLaws.{head-first, head-second, head-neither}
 use Rattle.join.proofs.RestLaws.{restOf, rest-all, rest-first, rest-second, rest-none}

@@ -1,9 +1,5 @@
 -- Joining two charts a and b (document 01, "Joining two charts"): what is refused, what is answered, and what the lent
 -- array holds then. What the result is: combined's specs.
---     joinedBy op x y       or, and, and-not: whether a point that lies in the first chart as x says and in the second
---                           as y says lies in the result
---     joining op            the same of a list of two answers, as combined has it
---     both a b              the two charts by their records
 --     resultOf op a b       the result's records
 --     touchesIn b r         the segment of r touches a segment of b
 --     firstTouching a b     the first record of a of which this holds; the number of records where there is none
@@ -24,7 +20,7 @@
 --     Joins op a b lent out j    so it is of any two arrays
 -- Assumes nothing.
 use mathlib.Core.Path.{_≡_}
-use mathlib.Core.Bool.{Bool, false, not, cond, _&&_, _||_}
+use mathlib.Core.Bool.{Bool, cond}
 use mathlib.Core.List.{List, [], _∷_, _++_}
 use Prim.Native.Nat.{ℕ, _*_}
 use lib.Dec.{ltb, eqb}
@@ -41,25 +37,12 @@ use Rattle.chart.specs.declared.Verdict.{Verdict}
 use Rattle.chart.specs.declared.Verdict.the-variants as verdict
 use Rattle.chart.specs.Verdicts.{limit, noRefusal, verdict}
 use Rattle.combined.specs.Results.{result, numbers}
-use Rattle.join.specs.declared.Op.{Op}
-use Rattle.join.specs.declared.Op.the-variants.{Union, Intersection, Difference}
+use Rattle.sides.specs.declared.Op.{Op}
+use Rattle.sides.specs.Operations.{joining, both}
 use Rattle.join.specs.declared.Joined.{Joined}
 use Rattle.join.specs.declared.Joined.the-variants.{Records, Refused}
 
 -- ---- the result
-
-abbrev pub joinedBy : Op → Bool → Bool → Bool
-joinedBy Union x y = x || y
-joinedBy Intersection x y = x && y
-joinedBy Difference x y = x && not y
-
-abbrev pub joining : Op → List Bool → Bool
-joining op [] = false
-joining op (x ∷ []) = false
-joining op (x ∷ y ∷ zs) = joinedBy op x y
-
-abbrev pub both : List ℤ → List ℤ → List (List Record)
-both a b = records a ∷ records b ∷ []
 
 abbrev pub resultOf : Op → List ℤ → List ℤ → List Record
 resultOf op a b = result (joining op) (both a b)

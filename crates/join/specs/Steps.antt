@@ -1,10 +1,6 @@
 -- What the functions inside find on the way: devices that their contracts cite. a and b are the two charts.
---     keptFirst op a b r       the segment of r, a record of the first chart, is kept
---     keptSecond op a b r      the same of a record of the second, whose segment the first has not
 --     Sized op a b n           the result has n records, which is no more than the charts have together
---     sideMark op a b t        1 exactly if the upper side of the segment t, or a vertical one's left, is in the result
---     sideMarked op a b r      r with that mark
---     sideResult op a b        the kept records in record order, each with that mark
+--     sideResult op a b        the kept records in record order, each with the mark by its upper sides
 --     written op a b lent      the array with the numbers of these at its start, the rest as it was
 --     withRecord lent n r      the array with the numbers of r for its record n
 -- Where `kept` tells which records are kept, `mark` how they stand in the result, and n of them are written:
@@ -15,43 +11,26 @@
 --                              `out`
 -- Assumes nothing.
 use mathlib.Core.Path.{_≡_}
-use mathlib.Core.Bool.{Bool, not, cond, _&&_}
+use mathlib.Core.Bool.{Bool, cond}
 use mathlib.Core.List.{List, [], _∷_, map}
 use Prim.Native.Nat.{ℕ, _+_, _*_, _≤_}
 use lib.IntN.{ℤ}
 use lib.ListN.{length}
 use lib.Seq.{sets}
 use Rattle.counts.specs.Count.{ind}
-use Rattle.plane.specs.declared.Segment.{Segment}
 use Rattle.record.specs.declared.Record.{Record}
-use Rattle.record.specs.Records.{width, recordAt, recordCount, records, unmarked, marked}
-use Rattle.segment.specs.Segments.{segment}
-use Rattle.among.specs.Among.{hasSegment}
-use Rattle.combined.specs.Kept.{upperSides, keeps, kept}
-use Rattle.combined.specs.Results.{inOrder, withMark, numbers}
-use Rattle.join.specs.declared.Op.{Op}
+use Rattle.record.specs.Records.{width, recordAt, recordCount}
+use Rattle.combined.specs.Kept.{kept}
+use Rattle.combined.specs.Results.{inOrder, numbers}
+use Rattle.sides.specs.declared.Op.{Op}
+use Rattle.sides.specs.Operations.{joining, both}
+use Rattle.sides.specs.Kept.{keptFirst, keptSecond, sideMarked}
 use Rattle.join.specs.declared.Joined.{Joined}
-use Rattle.join.specs.Joinings.{joining, both, resultOf, joined, joinedIn, contents, Gives}
-
--- ---- what is kept
-
-unfoldable pub keptFirst : Op → List ℤ → List ℤ → Record → Bool
-keptFirst op a b r = keeps (joining op) (both a b) (segment r)
-
-unfoldable pub keptSecond : Op → List ℤ → List ℤ → Record → Bool
-keptSecond op a b r = not (hasSegment (records a) (segment r)) && keptFirst op a b r
+use Rattle.join.specs.Joinings.{resultOf, joined, joinedIn, contents, Gives}
 
 pub record Sized (op : Op) (a b : List ℤ) (n : ℕ) : Type 0 where
   pub is : n ≡ length (resultOf op a b)
   pub most : n ≤ recordCount a + recordCount b
-
--- ---- the marks, by the upper sides
-
-abbrev pub sideMark : Op → List ℤ → List ℤ → Segment → ℕ
-sideMark op a b t = cond (joining op (upperSides (both a b) t)) marked unmarked
-
-unfoldable pub sideMarked : Op → List ℤ → List ℤ → Record → Record
-sideMarked op a b r = withMark (sideMark op a b (segment r)) r
 
 abbrev pub sideResult : Op → List ℤ → List ℤ → List Record
 sideResult op a b = map (sideMarked op a b) (inOrder (kept (joining op) (both a b)))

@@ -1,18 +1,15 @@
 // Joining two charts (document 01, "Joining two charts"): union, intersection and difference, written into a lent
-// array. What charts combined are, and that the result is again a chart which answers as the two do, is the crate
-// combined.
+// array. What is kept of each chart is the crate sides; what charts combined are, and that the result is again a chart
+// which answers as the two do, the crate combined.
 ghost use mathlib.Core.Path.{_≡_};
 ghost use Prim.Native.Nat.{_+_, _*_, _≤_};
 ghost use lib.ListN.{length};
 ghost use Rattle.counts.specs.Scan.{Found, Counted};
-ghost use Rattle.record.specs.Records.{width, recordAt, records};
+ghost use Rattle.record.specs.Records.{width, recordAt};
 ghost use Rattle.chart.specs.Regions.{Region};
-ghost use Rattle.region.specs.TwoSides.{upperSide};
-ghost use Rattle.combined.specs.Kept.{upperSides, keeps};
-ghost use Rattle.join.specs.Joinings.{joinedBy, joining, both, resultOf, touchesIn, noneNamed, answerOf, Joins};
-ghost use Rattle.join.specs.Steps.{keptFirst, keptSecond, Sized, sideMark, sideMarked, written, withRecord};
-ghost use Rattle.join.specs.Steps.{Room, TookFirst, TookSecond, SoundJoins};
-use among::has_segment;
+ghost use Rattle.sides.specs.Kept.{keptFirst, keptSecond};
+ghost use Rattle.join.specs.Joinings.{resultOf, touchesIn, noneNamed, answerOf, Joins};
+ghost use Rattle.join.specs.Steps.{Sized, written, withRecord, Room, TookFirst, TookSecond, SoundJoins};
 use chart::LIMIT;
 use chart::Refusal;
 use chart::Verdict;
@@ -20,82 +17,20 @@ use chart::check;
 use grid::number_at;
 use parts::Head;
 use parts::head_of;
-use plane::Segment;
 use record::Record;
 use record::WIDTH;
 use record::record_at;
 use segment::segment_of;
-
-// What is made of two charts: the first or the second, both, the first and not the second.
-pub enum Op {
-    Union,
-    Intersection,
-    Difference,
-}
+use sides::Op;
+use sides::is_kept_first;
+use sides::is_kept_second;
+use sides::marked_afresh;
 
 // What joining gives: how many records were written, or why none were and which chart, the first or the second, is to
 // blame; 0 where neither is by itself.
 pub enum Joined {
     Records(usize),
     Refused { chart: u8, refusal: Refusal },
-}
-
-// ---- what is kept
-
-pub fn joins(op: Op, first: bool, second: bool) -> bool
-    ensures { λ r. ⌜ r ≡ joinedBy op first second ⌝ }
-{
-    match op {
-        Op::Union => first | second,
-        Op::Intersection => first & second,
-        Op::Difference => first & !second,
-    }
-}
-
-// Whether the upper side of t, or the left of a vertical one, lies in the chart.
-fn is_upper_in(s: &[i16], t: Segment) -> bool
-    ensures { λ r. ⌜ r ≡ upperSide (records (now (s .entry))) t ⌝ }
-{
-    among::counted_mark(s, t) == record::MARKED
-}
-
-// Whether it lies in the result.
-fn is_upper_joined(op: Op, a: &[i16], b: &[i16], t: Segment) -> bool
-    ensures { λ r. ⌜ r ≡ joining op (upperSides (both (now (a .entry)) (now (b .entry))) t) ⌝ }
-{
-    joins(op, is_upper_in(a, t), is_upper_in(b, t))
-}
-
-// Whether the two sides of t differ in the result. The other side lies in a chart as the upper one does, but the
-// reverse where the chart has t.
-fn is_kept(op: Op, a: &[i16], b: &[i16], t: Segment) -> bool
-    ensures { λ r. ⌜ r ≡ keeps (joining op) (both (now (a .entry)) (now (b .entry))) t ⌝ }
-{
-    let first = is_upper_in(a, t);
-    let second = is_upper_in(b, t);
-    let of_first = has_segment(a, t);
-    let of_second = has_segment(b, t);
-    let upper = joins(op, first, second);
-    let lower = joins(op, first ^ of_first, second ^ of_second);
-    upper ^ lower
-}
-
-// Whether a record of the first chart is kept.
-fn is_kept_first(op: Op, a: &[i16], b: &[i16], r: Record) -> bool
-    ensures { λ k. ⌜ k ≡ keptFirst op (now (a .entry)) (now (b .entry)) r ⌝ }
-{
-    is_kept(op, a, b, segment_of(r))
-}
-
-// Of the second chart only what the first has not.
-fn is_kept_second(op: Op, a: &[i16], b: &[i16], r: Record) -> bool
-    ensures { λ k. ⌜ k ≡ keptSecond op (now (a .entry)) (now (b .entry)) r ⌝ }
-{
-    let t = segment_of(r);
-    if has_segment(a, t) {
-        return false;
-    }
-    is_kept(op, a, b, t)
 }
 
 // ---- how many
@@ -142,26 +77,6 @@ fn result_size(op: Op, a: &[i16], b: &[i16]) -> usize
 }
 
 // ---- writing
-
-// The mark of t in the result.
-fn mark_of(op: Op, a: &[i16], b: &[i16], t: Segment) -> u16
-    ensures { λ m. ⌜ m ≡ sideMark op (now (a .entry)) (now (b .entry)) t ⌝ }
-{
-    if is_upper_joined(op, a, b, t) {
-        return record::MARKED;
-    }
-    record::UNMARKED
-}
-
-// The record as it stands in the result.
-fn marked_afresh(op: Op, a: &[i16], b: &[i16], r: Record) -> Record
-    ensures { λ e. ⌜ e ≡ sideMarked op (now (a .entry)) (now (b .entry)) r ⌝ }
-{
-    let dom = r.dom;
-    let other = r.other;
-    let mark = mark_of(op, a, b, segment_of(r));
-    Record { dom, other, mark }
-}
 
 // The record becomes record n of the array.
 fn put(r: Record, out: &mut [i16], n: usize)

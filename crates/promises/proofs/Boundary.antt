@@ -26,7 +26,7 @@ use Rattle.area.specs.Areas.{areaOf}
 use Rattle.gauge.specs.declared.Card.the-variants.{Spring, Bridge}
 use Rattle.gauge.specs.declared.Gauged.{Gauged}
 use Rattle.gauge.specs.Readings.{refusedBy, Gauges}
-use Rattle.join.specs.declared.Op.{Op}
+use Rattle.sides.specs.declared.Op.{Op}
 use Rattle.join.specs.Joinings as joining
 use Rattle.join.specs.Joinings.{joinRefusal, chartNamed, outcome}
 use Rattle.file.specs.Files.{fileOf}

@@ -24,7 +24,7 @@ use Rattle.question.specs.declared.Place.the-variants.{Inside, Edge, Outside}
 use Rattle.question.specs.Places.{placeOf, placed}
 use Rattle.combined.specs.Kept.{either}
 use Rattle.combined.specs.Results.{inserted, inOrder}
-use Rattle.join.specs.declared.Op.the-variants.{Union, Intersection, Difference}
+use Rattle.sides.specs.declared.Op.the-variants.{Union, Intersection, Difference}
 use Rattle.join.specs.declared.Joined.the-variants.{Records}
 use Rattle.join.specs.Joinings.{joined, joinedIn, outcome, answerOf}
 use Rattle.gauge.specs.Values.{size, isMultiple, hasMinus, units}

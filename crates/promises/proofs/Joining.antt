@@ -32,7 +32,7 @@ use Rattle.combined.specs.Results.{result, numbers}
 use Rattle.combined.specs.Together.{Together}
 use Rattle.combined.proofs.SoundLaws.{result-region, result-mark}
 use Rattle.combined.proofs.PlaceLaws.{result-place}
-use Rattle.join.specs.declared.Op.{Op}
+use Rattle.sides.specs.declared.Op.{Op}
 use Rattle.join.specs.declared.Joined.{Joined}
 use Rattle.join.specs.declared.Joined.the-variants.{Records, Refused}
 use Rattle.join.specs.Joinings.{resultOf, joinRefusal, chartNamed, Joins}

@@ -87,6 +87,12 @@ use Rattle.question.proofs.is_edge.Kinds as is-edge-kinds
 use Rattle.question.proofs.is_edge.Reads as is-edge
 use Rattle.question.proofs.place_by.Kinds as place-by-kinds
 use Rattle.question.proofs.place_by.Reads as place-by
+use Rattle.sides.proofs.is_kept_first.Kinds as is-kept-first-kinds
+use Rattle.sides.proofs.is_kept_first.Reads as is-kept-first
+use Rattle.sides.proofs.is_kept_second.Kinds as is-kept-second-kinds
+use Rattle.sides.proofs.is_kept_second.Reads as is-kept-second
+use Rattle.sides.proofs.marked_afresh.Kinds as marked-afresh-kinds
+use Rattle.sides.proofs.marked_afresh.Reads as marked-afresh
 use Rattle.promises.proofs.Settled.{Settled}
 
 -- ---- grid
@@ -214,3 +220,14 @@ same-is-edge κs a v w s t h k = h ∙ sym k
 
 pub same-place-by : Settled 0 place-by-kinds.ps place-by-kinds.r Place place-by.Post
 same-place-by κs a v w s t h k = h ∙ sym k
+
+-- ---- sides
+
+pub same-is-kept-first : Settled 2 is-kept-first-kinds.ps is-kept-first-kinds.r Bool is-kept-first.Post
+same-is-kept-first κs a v w s t h k = h ∙ sym k
+
+pub same-is-kept-second : Settled 2 is-kept-second-kinds.ps is-kept-second-kinds.r Bool is-kept-second.Post
+same-is-kept-second κs a v w s t h k = h ∙ sym k
+
+pub same-marked-afresh : Settled 2 marked-afresh-kinds.ps marked-afresh-kinds.r Record marked-afresh.Post
+same-marked-afresh κs a v w s t h k = h ∙ sym k

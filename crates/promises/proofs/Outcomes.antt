@@ -43,8 +43,8 @@ use Rattle.gauge.proofs.read_sample.Reads as read-sample
 use Rattle.join.specs.declared.Joined.{Joined}
 use Rattle.join.proofs.combine.Kinds as combine-kinds
 use Rattle.join.proofs.combine.Reads as combine
-use Rattle.join.proofs.joins.Kinds as joins-kinds
-use Rattle.join.proofs.joins.Reads as joins
+use Rattle.sides.proofs.joins.Kinds as joins-kinds
+use Rattle.sides.proofs.joins.Reads as joins
 use Rattle.file.specs.declared.Answer.{Answer}
 use Rattle.number.specs.declared.Number.{Number}
 use Rattle.file.proofs.read.Kinds as read-kinds

@@ -50,9 +50,10 @@ use Rattle.nearest.proofs.ByMarkLaws.{byMark-byCount}
 use Rattle.combined.specs.Together.{Together}
 use Rattle.combined.proofs.SoundLaws.{result-region}
 use Rattle.combined.proofs.PlaceLaws.{result-place}
-use Rattle.join.specs.declared.Op.{Op}
+use Rattle.sides.specs.declared.Op.{Op}
 use Rattle.join.specs.declared.Joined.the-variants.{Records}
-use Rattle.join.specs.Joinings.{joinedBy, joining, resultOf, Joins}
+use Rattle.sides.specs.Operations.{joinedBy, joining}
+use Rattle.join.specs.Joinings.{resultOf, Joins}
 use Rattle.join.proofs.MarkLaws.{of-both, two-together, joining-none}
 use Rattle.join.proofs.OutcomeLaws.{Combined, joins-combined}
 

@@ -5,20 +5,16 @@
 --     upperSide-is, lowerSide-is     the two sides of a segment over the records are those over the segments
 --     room rs                        a column past every one of them
 --     sound-chart                    the segments of a sound chart are a `SoundChart`
---     region-single                  no segment is twice among those of a region
 -- Assumes nothing.
 use mathlib.Core.Path.{_≡_, refl, sym, ap, ap₂, _∙_}
 use mathlib.Core.Logic.{_⊎_, inl, inr}
 use mathlib.Core.Bool.{Bool, true, false, true≢false}
 use mathlib.Core.List.{List, map}
-use Prim.Native.Nat.{ℕ, suc, _<_, _≤_}
+use Prim.Native.Nat.{ℕ, suc, _<_}
 use native.Mathlib.Omega.{arith}
-use lib.IntN.{ℤ}
 use Rattle.counts.specs.Count.{_∈_, sum, count, keep, any, odd, _⊕_}
-use Rattle.counts.proofs.TestLaws.{and-true}
 use Rattle.counts.proofs.SumLaws.{sum-member}
-use Rattle.counts.proofs.CountLaws.{count-off, count-le, count-keep, keep-mem, mem-keep, any-keep}
-use Rattle.counts.proofs.HighestLaws.{Top, highest}
+use Rattle.counts.proofs.CountLaws.{count-keep, keep-mem, mem-keep, any-keep}
 use Rattle.counts.proofs.MapLaws.{count-map, any-map, map-mem, mem-map}
 use Rattle.plane.specs.declared.Segment.{Segment}
 use Rattle.plane.specs.Points.{isSegment}
@@ -26,12 +22,11 @@ use Rattle.plane.specs.Touching.{Touch}
 use Rattle.plane.specs.Columns.{countedFor, endsAt}
 use Rattle.plane.proofs.PointLaws.{isSegment-true, isSegment-refl}
 use Rattle.record.specs.declared.Record.{Record}
-use Rattle.record.specs.Records.{records}
 use Rattle.record.specs.Order.{left}
-use Rattle.segment.specs.Segments.{segment, ofSegment, isRecord}
-use Rattle.segment.proofs.SegmentLaws.{segment-forward, isRecord-refl}
-use Rattle.chart.specs.Regions.{Sound, Region}
-use Rattle.chart.proofs.OnceLaws.{sound-proper, sound-half, region-once}
+use Rattle.segment.specs.Segments.{segment, ofSegment}
+use Rattle.segment.proofs.SegmentLaws.{segment-forward}
+use Rattle.chart.specs.Regions.{Sound}
+use Rattle.chart.proofs.OnceLaws.{sound-proper}
 use Rattle.region.specs.TwoSides.{upperSide, lowerSide}
 use Rattle.region.proofs.Charts.{SoundChart, Clear, upper, lower}
 
@@ -92,29 +87,3 @@ module _ {rs : List Record} (sound : Sound rs) where
     };
     clear = clear;
   }
-
-module _ {s : List ℤ} (region : Region s) where
-  member-single : (t : Segment) → t ∈ segments (records s) → count (isSegment t) (segments (records s)) ≤ 1
-  member-single t m =
-      let r = segments-mem (records s) t m in
-      omega (
-        arith,
-        ofSegment-count (isSegment t) (records s),
-        region-once region (r .0) (r .1),
-        count-le (ofSegment (isSegment t)) (isRecord (r .0)) (records s) (only (r .0) (r .1) (r .2) (r .3)),
-      )
-    where
-      only : (r : Record) → r ∈ records s → left r ≡ true → t ≡ segment r → (e : Record) → e ∈ records s
-          → ofSegment (isSegment t) e ≡ true → isRecord r e ≡ true
-      only r k l g e n h =
-          let w = and-true (left e) _ h in
-          let one = sound-half (region .sound) e r n k (w .0 ∙ sym l) (isSegment-true t (segment e) (w .1) ∙ g) in
-          rw one (isRecord-refl r)
-
-  pub region-single : (t : Segment) → count (isSegment t) (segments (records s)) ≤ 1
-  region-single t = go (highest (isSegment t) (λ u. 0) (segments (records s)))
-    where
-      go : ((u : Segment) → u ∈ segments (records s) → isSegment t u ≡ false)
-          ⊎ Top (isSegment t) (λ u. 0) (segments (records s)) → count (isSegment t) (segments (records s)) ≤ 1
-      go (inl none) = omega (arith, count-off (isSegment t) (segments (records s)) none)
-      go (inr top) = member-single t (rw (isSegment-true t (top .it) (top .passes)) at (top .member))

@@ -1,6 +1,5 @@
 -- Lemma B: how many segments of an even chart lie below a segment s, in the strips that s spans. The chart need not
 -- have s, it is only clear of it.
---     under-strips    the number strictly below s has one parity in all these strips
 --     upTo-under      at or below s lie those strictly below it, and s itself as often as the chart has it
 --     upTo-strips     Lemma B: the number at or below s has one parity in all these strips
 -- Assumes nothing.
@@ -93,11 +92,6 @@ module _ {W : ℕ} (M : ℕ) (scale : Scale W M) {ss : List Segment} (chart : Ev
 
   from-first : (c : ℕ) → covers c s ≡ true → count (under M s c) ss % 2 ≡ count (under M s (s .a .x)) ss % 2
   from-first c h = let at = covers-is c s .0 h in steps (c - s .a .x) c (omega arith) (omega arith)
-
-  pub under-strips : (x z : ℕ) → covers x s ≡ true → covers z s ≡ true
-      → odd (count (under M s x) ss) ≡ odd (count (under M s z) ss)
-  under-strips x z hx hz =
-      odd-same (count (under M s x) ss) (count (under M s z) ss) (from-first x hx ∙ sym (from-first z hz))
 
   -- ---- with s itself
 

@@ -33,7 +33,7 @@ use Rattle.area.specs.declared.Area.{Area}
 use Rattle.area.specs.declared.Area.the-variants as area
 use Rattle.area.specs.Areas.{areaRefusal, areaOf}
 use Rattle.area.proofs.AreaLaws.{areaOf-refusal}
-use Rattle.join.specs.declared.Op.{Op}
+use Rattle.sides.specs.declared.Op.{Op}
 use Rattle.join.specs.declared.Joined.{Joined}
 use Rattle.join.specs.declared.Joined.the-variants as join
 use Rattle.join.specs.Joinings.{Joins}

@@ -22,7 +22,7 @@ use Rattle.question.specs.Corners.{cornerOf}
 use Rattle.question.proofs.RefusalLaws.{placed-refusal}
 use Rattle.area.specs.Areas.{areaOf}
 use Rattle.area.proofs.AreaLaws.{areaOf-refusal}
-use Rattle.join.specs.declared.Op.{Op}
+use Rattle.sides.specs.declared.Op.{Op}
 use Rattle.join.specs.Joinings as joining
 use Rattle.join.specs.Joinings.{Outcome, joined, refused, joinRefusal, chartNamed, outcome, Joins}
 use Rattle.join.proofs.OutcomeLaws.{outcome-told, told-small}

@@ -28,7 +28,7 @@ use Rattle.question.specs.Places.{placeRefusal}
 use Rattle.area.specs.declared.Area.{Area}
 use Rattle.area.specs.declared.Area.the-variants as area
 use Rattle.area.specs.Areas.{areaRefusal}
-use Rattle.join.specs.declared.Op.{Op}
+use Rattle.sides.specs.declared.Op.{Op}
 use Rattle.join.specs.declared.Joined.{Joined}
 use Rattle.join.specs.declared.Joined.the-variants as join
 use Rattle.join.specs.Joinings as joining

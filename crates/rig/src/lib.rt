@@ -9,7 +9,7 @@ ghost use Rattle.chart.specs.Verdicts.{verdict};
 ghost use Rattle.question.specs.Places.{placed, placeRefusal};
 ghost use Rattle.question.specs.Corners.{cornerOf};
 ghost use Rattle.area.specs.Areas.{areaOf};
-ghost use Rattle.join.specs.declared.Op.the-variants.{Union, Intersection, Difference};
+ghost use Rattle.sides.specs.declared.Op.the-variants.{Union, Intersection, Difference};
 ghost use Rattle.rig.specs.Bits.{packed, ofRefusal};
 ghost use Rattle.rig.specs.Answers.{checkAnswer, pointAnswer, cornerAnswer, headAnswer, areaAnswer, areaLeft};
 ghost use Rattle.rig.specs.Answers.{joinValue, joinAnswer, Combines, FileRead};
@@ -22,10 +22,10 @@ use gauge::Card;
 use gauge::Gauged;
 use gauge::Reading;
 use join::Joined;
-use join::Op;
 use join::combine;
 use parts::Head;
 use question::Place;
+use sides::Op;
 
 // ---- an answer's bits
 

@@ -5,7 +5,7 @@ use borrow.Author.Needs.{needs}
 use Rattle.counts.specs.Scan.{Counted}
 use Rattle.counts.proofs.ReadLaws.{reading}
 use Rattle.record.specs.Records.{recordAt}
-use Rattle.join.specs.Steps.{keptFirst}
+use Rattle.sides.specs.Kept.{keptFirst}
 use Rattle.join.proofs.count_first.Statement.{statement}
 use Rattle.join.proofs.count_first.Tie as tie
 

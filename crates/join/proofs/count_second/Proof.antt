@@ -5,7 +5,7 @@ use borrow.Author.Needs.{needs}
 use Rattle.counts.specs.Scan.{Counted}
 use Rattle.counts.proofs.ReadLaws.{reading}
 use Rattle.record.specs.Records.{recordAt}
-use Rattle.join.specs.Steps.{keptSecond}
+use Rattle.sides.specs.Kept.{keptSecond}
 use Rattle.join.proofs.count_second.Statement.{statement}
 use Rattle.join.proofs.count_second.Tie as tie
 

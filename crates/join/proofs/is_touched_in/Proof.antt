@@ -1,6 +1,6 @@
 -- `is_touched_in` meets its contract. Assumes nothing.
 use borrow.Author.Needs.{needs}
-use Rattle.join.proofs.SideLaws.{touchesIn-is}
+use Rattle.join.proofs.JoinLaws.{touchesIn-is}
 use Rattle.join.proofs.is_touched_in.Statement.{statement}
 use Rattle.join.proofs.is_touched_in.Tie as tie
 

@@ -1,8 +1,8 @@
 -- `is_kept_second` meets its contract, by whether the first chart has the segment. Assumes nothing.
 use borrow.Author.Needs.{needs}
-use Rattle.join.proofs.SideLaws.{keptSecond-had, keptSecond-new}
-use Rattle.join.proofs.is_kept_second.Statement.{statement}
-use Rattle.join.proofs.is_kept_second.Tie as tie
+use Rattle.sides.proofs.SideLaws.{keptSecond-had, keptSecond-new}
+use Rattle.sides.proofs.is_kept_second.Statement.{statement}
+use Rattle.sides.proofs.is_kept_second.Tie as tie
 
 ruleset all = (needs, keptSecond-had, keptSecond-new)
 

@@ -1,8 +1,8 @@
 -- `marked_afresh` meets its contract: the mark is that of the record's segment. Assumes nothing.
 use borrow.Author.Needs.{needs}
-use Rattle.join.proofs.SideLaws.{sideMarked-is}
-use Rattle.join.proofs.marked_afresh.Statement.{statement}
-use Rattle.join.proofs.marked_afresh.Tie as tie
+use Rattle.sides.proofs.SideLaws.{sideMarked-is}
+use Rattle.sides.proofs.marked_afresh.Statement.{statement}
+use Rattle.sides.proofs.marked_afresh.Tie as tie
 
 pub marked-afresh-spec : {M : Type 1} → statement M
 marked-afresh-spec =

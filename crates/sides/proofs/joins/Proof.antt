@@ -1,8 +1,8 @@
 -- `joins` meets its contract, operation by operation. Assumes nothing.
 use borrow.Author.Needs.{needs}
-use Rattle.join.proofs.SideLaws.{joinings}
-use Rattle.join.proofs.joins.Statement.{statement}
-use Rattle.join.proofs.joins.Tie as tie
+use Rattle.sides.proofs.SideLaws.{joinings}
+use Rattle.sides.proofs.joins.Statement.{statement}
+use Rattle.sides.proofs.joins.Tie as tie
 
 ruleset all = (needs, joinings)
 

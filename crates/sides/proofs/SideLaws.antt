@@ -1,4 +1,4 @@
--- What is kept and how it is marked (specs/Steps.antt), from what the functions inside answer.
+-- What is kept and how it is marked (specs/Kept.antt), from what the functions inside answer.
 --     joinedBy-union, joinedBy-intersection, joinedBy-difference    `joinedBy`, by the operation
 --     upperSide-marked      the upper side of a segment lies in a chart exactly if its counted mark there is 1
 --     joining-upper         whether it lies in the result
@@ -7,7 +7,6 @@
 --     keptSecond-had, keptSecond-new    and of the second, by whether the first has its segment
 --     sideMark-in, sideMark-out         the mark, by the upper side
 --     sideMarked-is                     and the record with it
---     touchesIn-is          a record of the first chart touches the second
 -- Assumes nothing.
 use mathlib.Core.Path.{_≡_, refl, sym, ap, ap₂, _∙_}
 use mathlib.Core.Bool.{Bool, true, false, not, cond, _&&_, _||_, Bool·beq}
@@ -21,14 +20,14 @@ use Rattle.grid.specs.Coordinates.{up}
 use Rattle.record.specs.declared.Record.{Record}
 use Rattle.record.specs.Records.{records, unmarked, marked}
 use Rattle.segment.specs.Segments.{segment}
-use Rattle.among.specs.Among.{hasSegment, touched, markCount, countedMark}
+use Rattle.among.specs.Among.{hasSegment, markCount, countedMark}
 use Rattle.region.specs.TwoSides.{upperSide}
 use Rattle.combined.specs.Kept.{upperSides, keeps}
 use Rattle.combined.specs.Results.{withMark}
-use Rattle.join.specs.declared.Op.{Op}
-use Rattle.join.specs.declared.Op.the-variants.{Union, Intersection, Difference}
-use Rattle.join.specs.Joinings.{joinedBy, joining, both, touchesIn}
-use Rattle.join.specs.Steps.{keptFirst, keptSecond, sideMark, sideMarked}
+use Rattle.sides.specs.declared.Op.{Op}
+use Rattle.sides.specs.declared.Op.the-variants.{Union, Intersection, Difference}
+use Rattle.sides.specs.Operations.{joinedBy, joining, both}
+use Rattle.sides.specs.Kept.{keptFirst, keptSecond, sideMark, sideMarked}
 
 module _ {op : Op} (x y : Bool) where
   pub joinedBy-union : op ≡ Union → x || y ≡ joinedBy op x y
@@ -88,10 +87,6 @@ module _ (op : Op) (a b : List ℤ) (r : Record) {t : Segment} (is : t ≡ segme
   pub sideMarked-is : {m : ℕ} → m ≡ sideMark op a b t → withMark m r ≡ sideMarked op a b r
   unfolding sideMarked
   sideMarked-is e = ap (λ m. withMark m r) (e ∙ ap (sideMark op a b) is)
-
-pub touchesIn-is : (b : List ℤ) (r : Record) {t : Segment} {k : Bool} → t ≡ segment r → k ≡ touched (records b) t
-    → k ≡ touchesIn b r
-touchesIn-is b r is e = e ∙ ap (touched (records b)) is
 
 module _ (op : Op) (a b : List ℤ) (t : Segment) {u : Bool} (is : u ≡ joining op (upperSides (both a b) t)) where
   pub sideMark-in : u ≡ true → marked ≡ sideMark op a b t

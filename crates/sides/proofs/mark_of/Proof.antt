@@ -1,9 +1,9 @@
 -- `mark_of` meets its contract: the upper side lies in the result or not. Assumes nothing.
 use borrow.Author.Needs.{needs}
 use Rattle.grid.specs.Coordinates.{up}
-use Rattle.join.proofs.SideLaws.{sideMark-in, sideMark-out}
-use Rattle.join.proofs.mark_of.Statement.{statement}
-use Rattle.join.proofs.mark_of.Tie as tie
+use Rattle.sides.proofs.SideLaws.{sideMark-in, sideMark-out}
+use Rattle.sides.proofs.mark_of.Statement.{statement}
+use Rattle.sides.proofs.mark_of.Tie as tie
 
 ruleset all = (needs, sideMark-in, sideMark-out)
 

@@ -1,9 +1,9 @@
 -- `is_upper_in` meets its contract: the counted mark is 1. Assumes nothing.
 use borrow.Author.Needs.{needs}
 use Rattle.grid.specs.Coordinates.{up}
-use Rattle.join.proofs.SideLaws.{upperSide-marked}
-use Rattle.join.proofs.is_upper_in.Statement.{statement}
-use Rattle.join.proofs.is_upper_in.Tie as tie
+use Rattle.sides.proofs.SideLaws.{upperSide-marked}
+use Rattle.sides.proofs.is_upper_in.Statement.{statement}
+use Rattle.sides.proofs.is_upper_in.Tie as tie
 
 returns : tie.Need-returns
 unfolding up

@@ -1,8 +1,8 @@
 -- `is_kept` meets its contract: the upper and the lower side differ in the result. Assumes nothing.
 use borrow.Author.Needs.{needs}
-use Rattle.join.proofs.SideLaws.{keeps-sides}
-use Rattle.join.proofs.is_kept.Statement.{statement}
-use Rattle.join.proofs.is_kept.Tie as tie
+use Rattle.sides.proofs.SideLaws.{keeps-sides}
+use Rattle.sides.proofs.is_kept.Statement.{statement}
+use Rattle.sides.proofs.is_kept.Tie as tie
 
 pub is-kept-spec : {M : Type 1} → statement M
 is-kept-spec =

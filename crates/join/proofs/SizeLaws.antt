@@ -1,7 +1,7 @@
 -- How many records the result of two charts has.
 --     kept-both         the kept records are those of the first chart and then those of the second
 --     result-length     neither the order nor the marks change their number
---     result-count      so it is the sum of the two counts
+--     result-sized      so it is the sum of the two counts
 -- Assumes nothing.
 use mathlib.Core.Path.{_≡_, ap, ap₂, _∙_}
 use mathlib.Core.Bool.{Bool, not}
@@ -20,9 +20,11 @@ use Rattle.among.specs.Among.{hasSegment}
 use Rattle.combined.specs.Kept.{either, kept}
 use Rattle.combined.specs.Results.{inOrder}
 use Rattle.combined.proofs.OrderedLaws.{inOrder-length}
-use Rattle.join.specs.declared.Op.{Op}
-use Rattle.join.specs.Joinings.{joining, both, resultOf}
-use Rattle.join.specs.Steps.{keptFirst, keptSecond, Sized}
+use Rattle.sides.specs.declared.Op.{Op}
+use Rattle.sides.specs.Operations.{joining, both}
+use Rattle.join.specs.Joinings.{resultOf}
+use Rattle.sides.specs.Kept.{keptFirst, keptSecond}
+use Rattle.join.specs.Steps.{Sized}
 
 module _ (op : Op) (a b : List ℤ) where
   pub kept-both : kept (joining op) (both a b)
@@ -40,9 +42,9 @@ module _ (op : Op) (a b : List ℤ) where
       let rs = kept (joining op) (both a b) in
       length-map (inOrder rs) _ ∙ inOrder-length rs
 
-  pub result-count : {m k : ℕ} → Counted (keptFirst op a b) (recordAt a) (recordCount a) m
+  pub result-sized : {m k : ℕ} → Counted (keptFirst op a b) (recordAt a) (recordCount a) m
       → Counted (keptSecond op a b) (recordAt b) (recordCount b) k → Sized op a b (m + k)
-  result-count {m} {k} h g =
+  result-sized {m} {k} h g =
       let first = keep (keptFirst op a b) (records a) in
       let second = keep (keptSecond op a b) (records b) in
       let counts = ap₂ _+_ (keep-length (keptFirst op a b) (records a)) (keep-length (keptSecond op a b) (records b)) in

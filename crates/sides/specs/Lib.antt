@@ -1,0 +1,2 @@
+pub mod Operations
+pub mod Kept
