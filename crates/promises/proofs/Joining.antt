@@ -1,4 +1,5 @@
 -- What the library promises of joining, over document 01's rules, for whatever arrays.
+--     union-inside, intersection-inside, difference-inside    demand 3's second part, by operation: or, and, and-not
 --     any-charts        demand 3's second part in its widest form: any number of charts, and any function of their
 --                       answers that is false where all are false
 --     any-marks         and the result's marks are that function of the upper sides
@@ -10,7 +11,7 @@
 -- Demand 3's second part of two charts: Promises.antt. That two outcomes coincide: Outcomes.antt. Assumes nothing.
 use mathlib.Core.Path.{_≡_, refl}
 use mathlib.Core.Logic.{_⊎_, inl, inr}
-use mathlib.Core.Bool.{Bool, false, cond}
+use mathlib.Core.Bool.{Bool, false, not, cond, _&&_, _||_}
 use mathlib.Core.List.{List, map}
 use Prim.Native.Nat.{ℕ, _*_, _≤_}
 use lib.IntN.{ℤ}
@@ -33,10 +34,31 @@ use Rattle.combined.specs.Together.{Together}
 use Rattle.combined.proofs.SoundLaws.{result-region, result-mark}
 use Rattle.combined.proofs.PlaceLaws.{result-place}
 use Rattle.sides.specs.declared.Op.{Op}
+use Rattle.sides.specs.declared.Op.the-variants.{Union, Intersection, Difference}
 use Rattle.join.specs.declared.Joined.{Joined}
 use Rattle.join.specs.declared.Joined.the-variants.{Records, Refused}
 use Rattle.join.specs.Joinings.{resultOf, joinRefusal, chartNamed, Joins}
 use Rattle.join.proofs.OutcomeLaws.{Told, outcome-told, joins-combined, joins-refused, joins-untouched}
+use Rattle.promises.proofs.Promises.{combined-charts}
+
+-- ---- two charts, by operation
+
+module _ (a b : List ℤ) (v : verdict a ≡ Accepted) (w : verdict b ≡ Accepted) (lent out : List ℤ) (n : ℕ) (p : Point)
+    (offA : held (records a) p ≡ false) (offB : held (records b) p ≡ false) where
+  -- what is written, at p
+  abbrev says : Bool
+  says = isInside (placed (take (width * n) out) p)
+
+  pub union-inside : Joins Union a b lent out (Records n) → says ≡ isInside (placed a p) || isInside (placed b p)
+  union-inside h = combined-charts Union a b v w lent out n h .1 p offA offB
+
+  pub intersection-inside : Joins Intersection a b lent out (Records n)
+      → says ≡ isInside (placed a p) && isInside (placed b p)
+  intersection-inside h = combined-charts Intersection a b v w lent out n h .1 p offA offB
+
+  pub difference-inside : Joins Difference a b lent out (Records n)
+      → says ≡ isInside (placed a p) && not (isInside (placed b p))
+  difference-inside h = combined-charts Difference a b v w lent out n h .1 p offA offB
 
 -- ---- any number of charts
 

@@ -15,6 +15,7 @@ mod tally;
 use judges::{charts, files, gauges, heads, joins, nearest, tape};
 use std::io::{stdout, BufWriter};
 use std::process::ExitCode;
+use std::thread;
 use tally::{close, Tally};
 
 const USAGE: &str = "usage:
@@ -50,6 +51,14 @@ fn write_tape(count: usize, seed: u64) -> bool {
     written.inspect_err(|error| eprintln!("judge: {error}")).is_ok()
 }
 
+/// What each of these tallies, each in a thread of its own: the archive keeps nothing between two questions.
+fn ask<'a>(judges: impl Iterator<Item = &'a (&'static str, Judge)>, count: usize, seed: u64) -> Vec<Tally> {
+    thread::scope(|scope| {
+        let asking: Vec<_> = judges.map(|&(_, judge)| scope.spawn(move || judge(count, seed))).collect();
+        asking.into_iter().map(|judge| judge.join().expect("a judge closes with its tally")).collect()
+    })
+}
+
 /// Does what the words say, and whether all is well; none where they say nothing that is known.
 fn run(words: &[&str]) -> Option<bool> {
     match *words {
@@ -66,7 +75,7 @@ fn run(words: &[&str]) -> Option<bool> {
         [name, ref rest @ ..] => {
             let (count, seed) = numbers(rest)?;
             let meant = JUDGES.iter().filter(|(known, _)| name == *known || name == "all");
-            let tallies: Vec<Tally> = meant.map(|(_, judge)| judge(count, seed)).collect();
+            let tallies = ask(meant, count, seed);
             (!tallies.is_empty()).then(|| close(&tallies))
         }
         [] => None,

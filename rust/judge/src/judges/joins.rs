@@ -1,6 +1,6 @@
 //! The judge of joining: union, intersection and difference of two charts. It asks about listed pairs into arrays of
-//! every length, about every two of the small charts and every two colours of some subdivisions, about damaged charts
-//! on either side and on both, about results as long as they may be and longer, and about drawn pairs.
+//! every length, about damaged charts on either side and on both, about results as long as they may be and longer,
+//! about every two of the small charts and every two colours of some subdivisions, and about drawn pairs.
 
 use super::results::objection;
 use crate::asking::answer::Answer;
@@ -163,11 +163,11 @@ fn points_near(a: &[i16], b: &[i16]) -> Vec<Point> {
 pub fn judge(count: usize, seed: u64) -> Tally {
     let mut joins = Joins { tally: Tally::new("joins"), named: [[0; 9]; 2], sizes: [[0; 5]; 3] };
     joins.ask_known(examples(), |length| (0..=length + 6).collect());
+    joins.ask_damaged();
     joins.ask_known(long(), |length| vec![0, length - length.min(1), length, length + 1, 2560, 2565]);
+    joins.ask_limits();
     joins.ask_small();
     joins.ask_colours();
-    joins.ask_damaged();
-    joins.ask_limits();
     joins.ask_drawn(count, seed);
     joins.close()
 }
