@@ -12,7 +12,7 @@ use mathlib.Core.Logic.{_↔_}
 use mathlib.Core.Bool.{Bool, true, false, _&&_}
 use mathlib.Core.List.{List, map}
 use Prim.Native.Nat.{ℕ}
-use Rattle.counts.specs.Count.{_∈_, count, keep, any}
+use Rattle.counts.specs.Count.{_∈_, count, any}
 use Rattle.counts.proofs.CountLaws.{count-ext, count-keep}
 use Rattle.counts.proofs.MapLaws.{count-map}
 use Rattle.counts.proofs.TallyLaws.{any-count, mem-count}
@@ -25,6 +25,7 @@ use Rattle.segment.specs.Segments.{segment, ofSegment}
 use Rattle.region.proofs.ChartLaws.{segments, ofSegment-count}
 use Rattle.combined.specs.Kept.{keeps, either, kept}
 use Rattle.combined.specs.Results.{inOrder, withMark, remarked, result}
+use Rattle.combined.proofs.Overlay.{keptIn}
 use Rattle.combined.proofs.EndsLaws.{ends-segment}
 use Rattle.combined.proofs.OrderedLaws.{inOrder-count}
 
@@ -45,7 +46,7 @@ remarked-count q rs = marked-count q _ rs
 
 module _ (f : List Bool → Bool) (cs : List (List Record)) where
   abbrev pub keptSegments : List Segment
-  keptSegments = keep (keeps f cs) (segments (either cs))
+  keptSegments = keptIn f cs (segments (either cs))
 
   module _ (q : Segment → Bool) where
     pub kept-count : count (ofSegment q) (kept f cs) ≡ count q keptSegments

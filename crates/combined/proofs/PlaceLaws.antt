@@ -12,7 +12,7 @@ use mathlib.Core.List.{List, map, map-map}
 use Prim.Native.Nat.{_≤_}
 use lib.IntN.{ℤ}
 use lib.ListN.{length}
-use Rattle.counts.specs.Count.{_∈_, keep, odd}
+use Rattle.counts.specs.Count.{_∈_, odd}
 use Rattle.counts.proofs.CountLaws.{keep-mem}
 use Rattle.counts.proofs.HighestLaws.{any-none}
 use Rattle.counts.proofs.MapLaws.{map-ext, map-mem}
@@ -33,7 +33,7 @@ use Rattle.combined.specs.Results.{result, numbers}
 use Rattle.combined.specs.Together.{Together}
 use Rattle.combined.proofs.OutlineLaws.{kept-below}
 use Rattle.combined.proofs.OverlayLaws.{overlay}
-use Rattle.combined.proofs.KeptLaws.{result-count, result-any}
+use Rattle.combined.proofs.KeptLaws.{keptSegments, result-count, result-any}
 use Rattle.combined.proofs.NumberLaws.{records-numbers}
 use Rattle.combined.proofs.SoundLaws.{result-region}
 
@@ -53,7 +53,7 @@ module _ {ss : List (List ℤ)} (together : Together ss) (f : List Bool → Bool
   pub result-held : ((s : List ℤ) → s ∈ ss → held (records s) p ≡ false) → held (result f cs) p ≡ false
   result-held off =
       result-any f cs (holds p)
-      ∙ any-none (holds p) (keep (keeps f cs) (segments (either cs))) .1 (λ t m.
+      ∙ any-none (holds p) (keptSegments f cs) .1 (λ t m.
       let o = overlay together .1 .owner t (keep-mem (keeps f cs) (segments (either cs)) t m .0) in
       let s = map-mem records ss (o .0) (o .1) in
       any-none (holds p) (segments (o .0)) .0

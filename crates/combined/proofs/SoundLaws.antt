@@ -13,7 +13,7 @@ use Prim.Native.Nat.{ℕ, suc, _<_, _≤_}
 use native.Mathlib.Omega.{arith}
 use lib.IntN.{ℤ}
 use lib.ListN.{length}
-use Rattle.counts.specs.Count.{_∈_, count, keep, odd}
+use Rattle.counts.specs.Count.{_∈_, count, odd}
 use Rattle.counts.proofs.CountLaws.{keep-mem}
 use Rattle.counts.proofs.MapLaws.{map-ext}
 use Rattle.counts.proofs.AscendingLaws.{ascending-at}
@@ -35,7 +35,7 @@ use Rattle.region.proofs.ChartLaws.{segments, mem-segments}
 use Rattle.combined.specs.Kept.{keeps, either, kept, upperSides}
 use Rattle.combined.specs.Results.{inOrder, withMark, result, numbers}
 use Rattle.combined.specs.Together.{Together}
-use Rattle.combined.proofs.Overlay.{Overlay}
+use Rattle.combined.proofs.Overlay.{Overlay, keptIn}
 use Rattle.combined.proofs.UpperLaws.{kept-charted, kept-upper}
 use Rattle.combined.proofs.Laid.{Laid, together-laid}
 use Rattle.combined.proofs.EitherLaws.{either-proper, either-halves}
@@ -55,7 +55,7 @@ module _ {ss : List (List ℤ)} (together : Together ss) (f : List Bool → Bool
   us = segments (either cs)
 
   abbrev ks : List Segment
-  ks = keep (keeps f cs) us
+  ks = keptIn f cs us
 
   laid : Laid cs
   laid = together-laid together

@@ -1,4 +1,5 @@
--- Charts that can be combined (document 01, refusal 11: none "where a segment of one touches a segment of the other").
+-- Charts that can be combined: no refusal 11 between any two (document 01: "a segment of one touches a segment of the
+-- other").
 --     Together ss      each of the arrays ss is a region, and no segment of one touches a segment of another
 -- Assumes nothing.
 use mathlib.Core.Path.{_≡_}

@@ -15,8 +15,8 @@
 --     contents o lent       what the lent array holds then: the result's numbers at its start, the rest as it was
 --     joinRefusal j, chartNamed j    the paper's number and index for each case, and the chart named: 0 where the
 --                           question was answered
---     Gives o lent out j    the answer is j, and the array that was `lent` is then `out`
 --     isJoinRefusal k       k is one of document 01's refusals of joining that name no chart
+--     Gives o lent out j    the answer is j, and the array that was `lent` is then `out`
 --     Joins op a b lent out j    so it is of any two arrays
 -- Assumes nothing.
 use mathlib.Core.Path.{_≡_}
@@ -90,12 +90,12 @@ abbrev pub joinRefusal : Joined → Refusal
 joinRefusal (Records n) = noRefusal
 joinRefusal (Refused c r) = r
 
-abbrev pub isJoinRefusal : ℕ → Bool
-isJoinRefusal k = any (eqb k) (11 ∷ 12 ∷ 13 ∷ [])
-
 abbrev pub chartNamed : Joined → ℕ
 chartNamed (Records n) = 0
 chartNamed (Refused c r) = c
+
+abbrev pub isJoinRefusal : ℕ → Bool
+isJoinRefusal k = any (eqb k) (11 ∷ 12 ∷ 13 ∷ [])
 
 pub record Gives (o : Outcome) (lent out : List ℤ) (j : Joined) : Type 0 where
   pub says : j ≡ answerOf o
