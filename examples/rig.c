@@ -1,10 +1,10 @@
 // A small job of the rig controller in C: a chart file is read and checked, points are asked about, a gauge's sample is
-// turned into a row, the chart is joined with a second one, and a refusal of each sort is met. rust/examples/rig.rs
-// does the same job and prints the same. From the top of the repository:
+// turned into a row, the chart is joined with a second one, the faces and holes of a third are listed, and a refusal of
+// each sort is met. rust/examples/rig.rs does the same job and prints the same. From the top of the repository:
 //
 //     rt staticlib rig
 //     gcc -I include -o target/rig examples/rig.c target/staticlib/librig.a
-//     target/rig examples/square.chart examples/neighbour.chart
+//     target/rig examples/square.chart examples/neighbour.chart examples/square-with-hole.chart
 #include "berzulka.h"
 
 #include <stdio.h>
@@ -14,8 +14,9 @@
 // nothing that is made of two needs more than ROOM numbers.
 enum { BYTES = 8192, ROOM = BZ_LIMIT * BZ_WIDTH };
 
-static uint8_t file[BYTES], second_file[BYTES];
-static int16_t chart[ROOM], second[ROOM], joined[ROOM];
+static uint8_t file[BYTES], second_file[BYTES], third_file[BYTES];
+static int16_t chart[ROOM], second[ROOM], third[ROOM], joined[ROOM];
+static uint16_t labels[BZ_LIMIT], cycles[BZ_LIMIT];
 
 // Tells a refusal, where the answer is one.
 static int is_refused(const char *what, uint64_t answer)
@@ -91,6 +92,22 @@ static void say_joins(size_t length, size_t second_length)
     say_joined("union without room", bz_union(chart, length, second, second_length, joined, 0));
 }
 
+// Which faces and holes the third chart has: the cycle of each record, and what each cycle is; then without room.
+static void say_faces(size_t length)
+{
+    uint64_t answer = bz_faces(third, length, labels, BZ_LIMIT, cycles, BZ_LIMIT);
+    if (is_refused("the third chart", answer))
+        return;
+    printf("the third chart: faces %u, cycles %u\n    cycle of each record:", bz_face_count(answer),
+           bz_cycle_count(answer));
+    for (size_t i = 0; i < length / BZ_WIDTH; i++)
+        printf(" %u", labels[i]);
+    printf("\n");
+    for (unsigned i = 0; i < bz_cycle_count(answer); i++)
+        printf("    cycle %u: %s of face %u\n", i, cycles[2 * i] == BZ_HOLE ? "hole" : "outer", cycles[2 * i + 1]);
+    is_refused("its faces without room", bz_faces(third, length, labels, BZ_LIMIT, cycles, 0));
+}
+
 static void say_refusals(size_t size, size_t length, size_t second_length)
 {
     double pressure;
@@ -131,15 +148,24 @@ static size_t load(const char *path, uint8_t *bytes)
     return size;
 }
 
+// How many numbers the file gives.
+static size_t read_chart(const char *what, size_t size, const uint8_t *bytes, int16_t *numbers)
+{
+    uint64_t answer = bz_read(bytes, size, numbers, ROOM);
+    if (is_refused(what, answer))
+        exit(1);
+    return bz_value(answer) * BZ_WIDTH;
+}
+
 int main(int count, char **words)
 {
     size_t size = load(count > 1 ? words[1] : "examples/square.chart", file);
     size_t second_size = load(count > 2 ? words[2] : "examples/neighbour.chart", second_file);
+    size_t third_size = load(count > 3 ? words[3] : "examples/square-with-hole.chart", third_file);
 
-    uint64_t answer = bz_read(file, size, chart, ROOM), second_answer = bz_read(second_file, second_size, second, ROOM);
-    if (is_refused("the file", answer) || is_refused("the second file", second_answer))
-        return 1;
-    size_t length = bz_value(answer) * BZ_WIDTH, second_length = bz_value(second_answer) * BZ_WIDTH;
+    size_t length = read_chart("the file", size, file, chart);
+    size_t second_length = read_chart("the second file", second_size, second_file, second);
+    size_t third_length = read_chart("the third file", third_size, third_file, third);
     if (is_refused("the chart", bz_check(chart, length)))
         return 1;
     say_records("a sound chart", chart, length);
@@ -147,6 +173,7 @@ int main(int count, char **words)
         return 0;
     say_answers(length);
     say_joins(length, second_length);
+    say_faces(third_length);
     say_refusals(size, length, second_length);
     return 0;
 }

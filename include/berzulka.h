@@ -19,7 +19,8 @@
 //     bits 32 to 47   document 01's number of the refusal; 0 where the question is answered          bz_refusal
 //     bits 48 to 55   the chart that a refusal names where two are asked about, 1 or 2; else 0       bz_named_chart
 //     bits 56 to 63   a kind                                                                         bz_kind
-// The answer of bz_corner is a run instead, by bz_run_start and bz_run_length.
+// The answer of bz_corner is a run instead, by bz_run_start and bz_run_length. The value of bz_faces is two numbers, by
+// bz_cycle_count and bz_face_count.
 #ifndef BERZULKA_H
 #define BERZULKA_H
 
@@ -30,7 +31,8 @@
 extern "C" {
 #endif
 
-// How many numbers a record has, and how many records a chart may have: what bz_read and joining need at most.
+// How many numbers a record has, and how many records a chart may have: what bz_read, joining and bz_faces need at
+// most.
 #define BZ_WIDTH 5
 #define BZ_LIMIT 512
 
@@ -48,6 +50,12 @@ enum bz_head_kind {
     BZ_NEITHER = 0,
     BZ_FIRST = 1,
     BZ_SECOND = 2
+};
+
+// The first of the two numbers that bz_faces writes for a cycle.
+enum bz_cycle_kind {
+    BZ_OUTER = 0,
+    BZ_HOLE = 1
 };
 
 // The kind of a gauge card, which bz_gauge is asked with.
@@ -68,6 +76,8 @@ enum bz_refusal_number {
     BZ_TOUCHING = 7,            // two segments touch
     BZ_ODD_END = 8,             // an odd number of segments ends at a point
     BZ_WRONG_MARK = 9,          // a mark is not the counted one
+    // of faces, with index 0
+    BZ_NO_ROOM_FOR_FACES = 10,  // either array is too short
     // of joining two charts, naming neither; 12 and 13 with index 0
     BZ_CHARTS_TOUCH = 11,       // a segment of one touches a segment of the other (index: first such record of the
                                 // first chart)
@@ -119,6 +129,17 @@ static inline size_t bz_run_length(uint64_t answer)
     return (size_t)(answer >> 32);
 }
 
+// How many cycles bz_faces answers, and how many faces. Each face has one outer cycle, and every other one is a hole.
+static inline unsigned bz_cycle_count(uint64_t answer)
+{
+    return (unsigned)(answer & 0xffffu);
+}
+
+static inline unsigned bz_face_count(uint64_t answer)
+{
+    return (unsigned)(answer >> 16 & 0xffffu);
+}
+
 // A refusal's number in a few words.
 static inline const char *bz_meaning(unsigned number)
 {
@@ -133,6 +154,7 @@ static inline const char *bz_meaning(unsigned number)
     case BZ_TOUCHING: return "two segments touch";
     case BZ_ODD_END: return "an odd number of segments ends at a point";
     case BZ_WRONG_MARK: return "the mark is not the counted one";
+    case BZ_NO_ROOM_FOR_FACES: return "the array for labels or the one for cycles is too short";
     case BZ_CHARTS_TOUCH: return "a segment of one chart touches a segment of the other";
     case BZ_RESULT_TOO_LONG: return "the result has more records than a chart may have";
     case BZ_NO_ROOM_FOR_RESULT: return "the lent array is shorter than the result";
@@ -170,6 +192,15 @@ uint64_t bz_head(const int16_t *a, size_t a_length, const int16_t *b, size_t b_l
 
 // How large is it? 0, with twice the area in *out; or the refusal and the index, and *out is as it was.
 uint64_t bz_area2(const int16_t *chart, size_t chart_length, int64_t *out);
+
+// Which faces and holes does it have? The boundary goes in cycles, each the outer one of a face or a hole in one. Into
+// labels goes the number of its cycle for each record, into cycles two numbers for each cycle: BZ_OUTER or BZ_HOLE, and
+// the face. Cycles are numbered from 0 by their first records, faces from 0 by their outer cycles. The answer is how
+// many cycles there are in bits 0 to 15 and how many faces in bits 16 to 31; the places beyond in either array are as
+// they were. Or the refusal and the index, after 1 to 9 also 10 where either array is too short, and both arrays are as
+// they were. No chart needs more room than BZ_LIMIT numbers in either array, and the empty chart needs none.
+uint64_t bz_faces(const int16_t *chart, size_t chart_length, uint16_t *labels, size_t labels_length,
+                  uint16_t *cycles, size_t cycles_length);
 
 // ---- joining two charts: each first gives refusals 1 to 9 of the first chart, which name chart 1, then those of the
 // second, which name chart 2, then 11, 12 and 13, which name neither

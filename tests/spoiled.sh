@@ -1,21 +1,23 @@
 #!/usr/bin/env bash
 # That a wrong answer fails the tests. The archive is made anew with functions that spoil one thing, by the name that
-# the environment variable SPOIL has (tests/boundary/spoil.c); the judge and the replay of its tape must pass where it
+# the environment variable SPOIL has (tests/boundary/spoil*.c); the judge and the replay of its tape must pass where it
 # has none, and fail by their counts for each of them.
 set -uo pipefail
 source "$(dirname "$0")/boundary/begin.sh"
 spoiled=$PWD/$made/spoiled
 
-# The archive, its functions renamed, with those of spoil.c in their place.
+# The archive, its functions renamed, with those of spoil.c and spoil_faces.c in their place.
 build_spoiled() {
-    local renamed=() name
+    local renamed=() name source
     for name in $(nm --defined-only --extern-only "$archive" | sed -nE 's/^.* T (bz_[a-z0-9_]+)$/\1/p'); do
         renamed+=(--redefine-sym "$name=sound_$name")
     done
     mkdir -p "$spoiled" && rm -f "$spoiled/librig.a" &&
-        objcopy "${renamed[@]}" "$archive" "$spoiled/librig.a" &&
-        gcc -std=c99 -O2 -Wall -Wextra -Werror -I include -c -o "$spoiled/spoil.o" tests/boundary/spoil.c &&
-        ar rs "$spoiled/librig.a" "$spoiled/spoil.o" 2> "$log"
+        objcopy "${renamed[@]}" "$archive" "$spoiled/librig.a" || return 1
+    for source in spoil spoil_faces; do
+        gcc -std=c99 -O2 -Wall -Wextra -Werror -I include -c -o "$spoiled/$source.o" "tests/boundary/$source.c" &&
+            ar rs "$spoiled/librig.a" "$spoiled/$source.o" 2> "$log" || return 1
+    done
 }
 
 # The judge and the replay, both over the spoiled archive.
@@ -32,6 +34,7 @@ ask_judge() {
 judge_of() {
     case $1 in
         check-* | point-* | corner-* | area-*) echo charts ;;
+        faces-*) echo faces ;;
         head-*) echo heads ;;
         join-*) echo joins ;;
         gauge-* | pressure-*) echo gauges ;;
@@ -53,8 +56,8 @@ fails_by_count() {
 }
 
 unset SPOIL
-things=$(grep -oE 'is_spoiled\("[a-z-]+"' tests/boundary/spoil.c | cut -d '"' -f 2) || exit 1
-build_spoiled && build_both && "$spoiled/rust/release/judge" tape 600 1 > "$scratch/tape" || exit 1
+things=$(grep -ohE 'is_spoiled\("[a-z0-9-]+"' tests/boundary/spoil*.c | cut -d '"' -f 2) || exit 1
+build_spoiled && build_both && "$spoiled/rust/release/judge" tape 1000 1 > "$scratch/tape" || exit 1
 expect 'nothing spoiled, the judge' ask_judge
 expect 'nothing spoiled, the replay' ask_replay
 for thing in $things; do

@@ -1,10 +1,11 @@
 //! A small job of the rig controller in Rust: a chart file is read and checked, points are asked about, a gauge's
-//! sample is turned into a row, the chart is joined with a second one, and a refusal of each sort is met.
-//! examples/rig.c does the same job and prints the same. From the folder rust/ of the repository:
+//! sample is turned into a row, the chart is joined with a second one, the faces and holes of a third are listed, and a
+//! refusal of each sort is met. examples/rig.c does the same job and prints the same. From the folder rust/ of the
+//! repository, with the examples' charts where no others are named:
 //!
-//!     cargo run --example rig -- ../examples/square.chart ../examples/neighbour.chart
+//!     cargo run --example rig -- ../examples/square.chart
 
-use berzulka::{area2, check, corner, difference, gauge, head, intersection, point, read, union};
+use berzulka::{area2, check, corner, difference, faces, gauge, head, intersection, point, read, union};
 use berzulka::{Card, Head, Refusal, LIMIT, WIDTH};
 use std::process::ExitCode;
 
@@ -74,6 +75,19 @@ fn say_joins(chart: &[i16], second: &[i16]) {
     say_joined("union without room", union(chart, second, &mut []));
 }
 
+/// Which faces and holes the third chart has: the cycle of each record, and what each cycle is; then without room.
+fn say_faces(third: &[i16]) {
+    let (mut labels, mut cycles) = ([0; LIMIT], [0; LIMIT]);
+    let Some(count) = answered("the third chart", faces(third, &mut labels, &mut cycles)) else { return };
+    println!("the third chart: faces {}, cycles {}", count.faces, count.cycles);
+    let of_each: Vec<String> = labels[..third.len() / WIDTH].iter().map(u16::to_string).collect();
+    println!("    cycle of each record: {}", of_each.join(" "));
+    for (i, cycle) in cycles.chunks(2).take(count.cycles).enumerate() {
+        println!("    cycle {i}: {} of face {}", if cycle[0] == 1 { "hole" } else { "outer" }, cycle[1]);
+    }
+    answered("its faces without room", faces(third, &mut labels, &mut []));
+}
+
 fn say_refusals(file: &[u8], chart: &mut [i16], second: &[i16]) {
     let (last_byte, last_mark) = (file.len() - 1, chart.len() - 1);
     answered("the file without its last byte", read(&file[..last_byte], chart));
@@ -98,33 +112,46 @@ fn say_answers(chart: &[i16]) {
     say_sample(chart, 5);
 }
 
+/// The numbers that a file gives.
+fn numbers(what: &str, file: &[u8]) -> Option<Vec<i16>> {
+    let mut numbers = vec![0; ROOM];
+    let records = answered(what, read(file, &mut numbers))?;
+    numbers.truncate(records * WIDTH);
+    Some(numbers)
+}
+
 /// The job; nothing where a file or the chart is refused, which is told.
-fn job(file: &[u8], second_file: &[u8]) -> Option<()> {
-    let (mut numbers, mut second) = ([0; ROOM], [0; ROOM]);
-    let records = answered("the file", read(file, &mut numbers))?;
-    let second_records = answered("the second file", read(second_file, &mut second))?;
-    let (chart, second) = (&mut numbers[..records * WIDTH], &second[..second_records * WIDTH]);
-    answered("the chart", check(chart))?;
-    say_records("a sound chart", chart);
+fn job(file: &[u8], second_file: &[u8], third_file: &[u8]) -> Option<()> {
+    let mut chart = numbers("the file", file)?;
+    let second = numbers("the second file", second_file)?;
+    let third = numbers("the third file", third_file)?;
+    answered("the chart", check(&chart))?;
+    say_records("a sound chart", &chart);
     if !chart.is_empty() {
-        say_answers(chart);
-        say_joins(chart, second);
-        say_refusals(file, chart, second);
+        say_answers(&chart);
+        say_joins(&chart, &second);
+        say_faces(&third);
+        say_refusals(file, &mut chart, &second);
     }
     Some(())
 }
 
-/// The bytes of the file that a word of the command names.
-fn load(word: usize, otherwise: &str) -> std::io::Result<Vec<u8>> {
-    std::fs::read(std::env::args().nth(word).as_deref().unwrap_or(otherwise))
+/// The bytes of the file that a word of the command names, else of the chart of an example.
+fn load(word: usize, example: &str) -> std::io::Result<Vec<u8>> {
+    match std::env::args().nth(word) {
+        Some(path) => std::fs::read(path),
+        None => std::fs::read(format!("../examples/{example}.chart")),
+    }
+}
+
+fn run() -> std::io::Result<ExitCode> {
+    let (file, second_file, third_file) = (load(1, "square")?, load(2, "neighbour")?, load(3, "square-with-hole")?);
+    Ok(ExitCode::from(job(&file, &second_file, &third_file).is_none() as u8))
 }
 
 fn main() -> ExitCode {
-    match (load(1, "../examples/square.chart"), load(2, "../examples/neighbour.chart")) {
-        (Ok(file), Ok(second_file)) => ExitCode::from(job(&file, &second_file).is_none() as u8),
-        (Err(e), _) | (_, Err(e)) => {
-            eprintln!("rig: {e}");
-            ExitCode::from(2)
-        }
-    }
+    run().unwrap_or_else(|e| {
+        eprintln!("rig: {e}");
+        ExitCode::from(2)
+    })
 }

@@ -31,9 +31,11 @@
 
 #![deny(missing_docs)]
 
+mod faces;
 pub mod raw;
 mod refusal;
 
+pub use faces::{faces, FaceCount};
 pub use refusal::{Reason, Refusal};
 
 use raw::Answer;
@@ -41,12 +43,13 @@ use raw::Answer;
 /// How many numbers a record has.
 pub const WIDTH: usize = 5;
 
-/// How many records a chart may have, so that [`read`] and joining need no more than `LIMIT * WIDTH` numbers.
+/// How many records a chart may have, so that [`read`] and joining need no more than `LIMIT * WIDTH` numbers, and
+/// [`faces`] no more than `LIMIT` in either array.
 pub const LIMIT: usize = 512;
 
-// In each `unsafe` below a slice gives a pointer that is valid for its length, and what is lent for writing is a `&mut`
-// that nothing else overlaps: that is all the archive asks. What comes back is looked at as an unknown number would be,
-// so that not even a wrong answer could make a part of an array that is not there.
+// In each `unsafe` below and in `faces` a slice gives a pointer that is valid for its length, and what is lent for
+// writing is a `&mut` that nothing else overlaps: that is all the archive asks. What comes back is looked at as an
+// unknown number would be, so that not even a wrong answer could make a part of an array that is not there.
 
 // ---- questions about a chart
 

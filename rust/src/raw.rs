@@ -20,6 +20,17 @@ extern "C" {
     /// How large is it? The refusal and the index; or 0, with twice the area in `out`.
     pub fn bz_area2(chart: *const i16, chart_len: usize, out: *mut i64) -> u64;
 
+    /// Which faces and holes does it have? How many cycles in bits 0 to 15, how many faces in bits 16 to 31; or the
+    /// refusal and the index.
+    pub fn bz_faces(
+        chart: *const i16,
+        chart_len: usize,
+        labels: *mut u16,
+        labels_len: usize,
+        cycles: *mut u16,
+        cycles_len: usize,
+    ) -> u64;
+
     /// What lies in either chart? How many records were written; or the refusal, the index and the chart named.
     pub fn bz_union(a: *const i16, a_len: usize, b: *const i16, b_len: usize, out: *mut i16, out_len: usize) -> u64;
 
@@ -73,6 +84,11 @@ impl Answer {
     /// Bits 56 to 63: a kind.
     pub fn kind(self) -> u8 {
         (self.0 >> 56) as u8
+    }
+
+    /// Of `bz_faces`: how many cycles in bits 0 to 15, and how many faces in bits 16 to 31.
+    pub fn counts(self) -> (usize, usize) {
+        (self.0 as u16 as usize, (self.0 >> 16) as u16 as usize)
     }
 
     /// Of `bz_corner`: the start of the run in bits 0 to 31, and its length in bits 32 to 63.

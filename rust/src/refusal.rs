@@ -53,6 +53,8 @@ refusals! {
         "an odd number of segments ends at a point";
     9 WrongMark: "a mark is not the counted one",
         "the mark is not the counted one";
+    10 NoRoomForFaces: "either array is too short",
+        "the array for labels or the one for cycles is too short";
     11 ChartsTouch: "a segment of one touches a segment of the other (index: first such record of the first chart)",
         "a segment of one chart touches a segment of the other";
     12 ResultTooLong: "the result has more than 512 records",
@@ -143,7 +145,7 @@ mod tests {
     fn every_number_is_listed() {
         let is_listed = |number| Refusal { number, index: 0, chart: 0 }.reason() != Reason::Unlisted;
         let listed: Vec<u16> = (0..=u16::MAX).filter(|&number| is_listed(number)).collect();
-        assert_eq!(listed, [1, 2, 3, 4, 5, 6, 7, 8, 9, 11, 12, 13, 21, 22, 23, 31, 32, 33, 34, 35, 36]);
+        assert_eq!(listed, [1, 2, 3, 4, 5, 6, 7, 8, 9, 10, 11, 12, 13, 21, 22, 23, 31, 32, 33, 34, 35, 36]);
     }
 
     #[test]

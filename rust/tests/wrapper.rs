@@ -1,7 +1,7 @@
 //! The wrapper on document 01's bench examples: each question once answered and once refused, and what a refusal says.
 
-use berzulka::{area2, check, corner, difference, gauge, head, intersection, point, read, union};
-use berzulka::{Card, Head, Place, Reading, Reason, Refusal, LIMIT, WIDTH};
+use berzulka::{area2, check, corner, difference, faces, gauge, head, intersection, point, read, union};
+use berzulka::{Card, FaceCount, Head, Place, Reading, Reason, Refusal, LIMIT, WIDTH};
 
 /// Document 01's square with corners (0,0) and (4,4), and its file.
 const SQUARE: [i16; 40] = [
@@ -14,6 +14,12 @@ const FILE: &[u8] = include_bytes!("../../examples/square.chart");
 const NEIGHBOUR: [i16; 40] = [
     4, 0, 8, 0, 1, 4, 0, 4, 4, 0, 4, 4, 4, 0, 0, 4, 4, 8, 4, 0, //
     8, 0, 4, 0, 1, 8, 0, 8, 4, 1, 8, 4, 4, 4, 0, 8, 4, 8, 0, 1,
+];
+
+/// The square plus hole (0,0), (2,1), (1,2).
+const PIERCED: [i16; 70] = [
+    0, 0, 4, 0, 1, 0, 0, 2, 1, 0, 0, 0, 1, 2, 1, 0, 0, 0, 4, 0, 0, 4, 0, 0, 0, 0, 4, 4, 4, 0, 1, 2, 0, 0, 1, //
+    1, 2, 2, 1, 1, 2, 1, 1, 2, 1, 2, 1, 0, 0, 0, 4, 0, 0, 0, 1, 4, 0, 4, 4, 1, 4, 4, 0, 4, 0, 4, 4, 4, 0, 1,
 ];
 
 /// The square with other numbers at some places.
@@ -77,6 +83,30 @@ fn a_head_is_that_very_part() {
 fn areas_are_doubled() {
     assert_eq!(area2(&SQUARE), Ok(32));
     assert_eq!(refused(area2(&changed(&[39], 0))), (6, 5));
+}
+
+#[test]
+fn faces_and_holes_are_listed() {
+    let (mut labels, mut cycles) = ([7; 16], [7; 6]);
+    assert_eq!(faces(&PIERCED, &mut labels, &mut cycles), Ok(FaceCount { cycles: 2, faces: 1 }));
+    assert_eq!(labels, [0, 1, 1, 0, 0, 0, 1, 1, 1, 1, 0, 0, 0, 0, 7, 7]);
+    assert_eq!(cycles, [0, 0, 1, 0, 7, 7]);
+    // just enough room, and no room where none is needed
+    assert_eq!(faces(&SQUARE, &mut labels[..8], &mut cycles[..2]), Ok(FaceCount { cycles: 1, faces: 1 }));
+    assert_eq!(labels[..8], [0; 8]);
+    assert_eq!(faces(&[], &mut [], &mut []), Ok(FaceCount { cycles: 0, faces: 0 }));
+}
+
+#[test]
+fn a_refused_list_leaves_both_arrays() {
+    let (mut labels, mut cycles) = ([7; 16], [7; 6]);
+    assert_eq!(refused(faces(&changed(&[39], 0), &mut [], &mut cycles)), (6, 5));
+    assert_eq!(refused(faces(&PIERCED[1..], &mut labels, &mut cycles)), (1, 0));
+    assert_eq!(refused(faces(&PIERCED, &mut labels[..13], &mut cycles)), (10, 0));
+    assert_eq!(refused(faces(&PIERCED, &mut labels, &mut cycles[..3])), (10, 0));
+    assert_eq!(refused(faces(&PIERCED, &mut labels[..13], &mut cycles[..3])), (10, 0));
+    assert_eq!(refused(faces(&PIERCED, &mut [], &mut [])), (10, 0));
+    assert_eq!((labels, cycles), ([7; 16], [7; 6]));
 }
 
 #[test]
@@ -155,6 +185,9 @@ fn a_refusal_says_what_is_wrong() {
     let refusal = union(&[], &changed(&[4, 24], 0), &mut []).unwrap_err();
     assert_eq!(refusal.reason(), Reason::WrongMark);
     assert_eq!(refusal.to_string(), "refused 9 at 0 of chart 2: the mark is not the counted one");
+    let refusal = faces(&SQUARE, &mut [0; 8], &mut [0; 1]).unwrap_err();
+    assert_eq!(refusal.reason(), Reason::NoRoomForFaces);
+    assert_eq!(refusal.to_string(), "refused 10 at 0: the array for labels or the one for cycles is too short");
     let refusal = read(&FILE[..40], &mut [0; 40]).unwrap_err();
     assert_eq!(refusal.reason(), Reason::CutShort);
     assert_eq!(refusal.to_string(), "refused 31 at 40: the bytes end inside a number or before it");

@@ -23,6 +23,7 @@ int main(void)
     const int16_t sliver[] = {0, 0, 2, 1, 1, 0, 0, 1, 1, 0, 1, 1, 0, 0, 0, 1, 1, 2, 1, 0, 2, 1, 1, 1, 0, 2, 1, 0, 0, 1};
     const size_t length = sizeof sliver / sizeof sliver[0];
     const uint8_t none[] = {0}, one[] = {1, 0, 0, 8, 0, 1};
+    uint16_t labels[6], cycles[2];
     int64_t area = 7, other = 7;
 
     want("check", bz_check(NULL, 0), bz_check(record, 0), 0, 0);
@@ -33,6 +34,13 @@ int main(void)
     want("head", bz_head(record, 5, NULL, 0), bz_head(record, 5, record, 0), BZ_FIRST, 0);
     want("area2", bz_area2(NULL, 0, &area), bz_area2(record, 0, &other), 0, 0);
     want("area2's area", (uint64_t)area, (uint64_t)other, 0, 0);
+    want("faces", bz_faces(NULL, 0, NULL, 0, NULL, 0), bz_faces(record, 0, labels, 0, cycles, 0), 0, 0);
+    want("faces without labels", bz_faces(sliver, length, NULL, 0, cycles, 2),
+         bz_faces(sliver, length, labels, 0, cycles, 2), 0, BZ_NO_ROOM_FOR_FACES);
+    want("faces without cycles", bz_faces(sliver, length, labels, 6, NULL, 0),
+         bz_faces(sliver, length, labels, 6, cycles, 0), 0, BZ_NO_ROOM_FOR_FACES);
+    want("faces of half a record", bz_faces(record, 3, NULL, 0, NULL, 0), bz_faces(record, 3, labels, 0, cycles, 0),
+         0, BZ_BAD_LENGTH);
     want("union", bz_union(NULL, 0, NULL, 0, NULL, 0), bz_union(record, 0, record, 0, out, 0), 0, 0);
     want("intersection with nothing", bz_intersection(sliver, length, NULL, 0, NULL, 0),
          bz_intersection(sliver, length, record, 0, out, 0), 0, 0);

@@ -1,11 +1,8 @@
 // The functions of the archive with one thing spoiled, which the environment variable SPOIL names: one of the names
-// that is_spoiled is asked with below. tests/spoiled.sh puts this into an archive whose own functions are renamed to
-// sound_bz_.., and has the tests ask that archive. They must fail for each name, and pass where SPOIL is not set.
-#include "berzulka.h"
-
-#include <stdbool.h>
-#include <stdlib.h>
-#include <string.h>
+// that is_spoiled is asked with below and in spoil_faces.c. tests/spoiled.sh puts both into an archive whose own
+// functions are renamed to sound_bz_.., and has the tests ask that archive. They must fail for each name, and pass
+// where SPOIL is not set.
+#include "spoil.h"
 
 uint64_t sound_bz_check(const int16_t *chart, size_t chart_length);
 uint64_t sound_bz_point(const int16_t *chart, size_t chart_length, int16_t x, int16_t y);
@@ -18,16 +15,6 @@ uint64_t sound_bz_read(const uint8_t *bytes, size_t bytes_length, int16_t *out, 
 typedef uint64_t joining(const int16_t *a, size_t a_length, const int16_t *b, size_t b_length,
                          int16_t *out, size_t out_length);
 joining sound_bz_union, sound_bz_intersection, sound_bz_difference;
-
-static bool is_spoiled(const char *thing)
-{
-    const char *named = getenv("SPOIL");
-    return named != NULL && strcmp(named, thing) == 0;
-}
-
-// What is added to an answer to spoil one of its parts.
-static const uint64_t one_value = 1, one_number = UINT64_C(1) << 32, one_chart = UINT64_C(1) << 48;
-static const uint64_t one_kind = UINT64_C(1) << 56;
 
 // ---- questions about a chart
 

@@ -16,7 +16,7 @@
 //     letter u8, kind u8, x i16, y i16, first u64, second u64, n1 u32, n2 u32, lent u32 (sizes in bytes)
 //     n1 bytes of the first array, n2 of the second, what is lent before, what it must hold after, the answer u64
 // The first array is a chart, or a file's bytes, and the second another chart. A gauge's sample is x, and first and
-// second are its floats' bits.
+// second are its floats' bits. Of faces x is how many labels are lent; the numbers of cycles come after them.
 #define _DEFAULT_SOURCE
 #include "berzulka.h"
 
@@ -54,8 +54,8 @@ struct question {
     bool any_number;
 };
 
-// A gauge is lent a pressure and a row, which stand one after the other on the tape.
-enum { PRESSURE = sizeof(double), ROW = sizeof(int16_t) };
+// A gauge is lent a pressure and a row, which stand one after the other on the tape; faces are lent two arrays so.
+enum { PRESSURE = sizeof(double), ROW = sizeof(int16_t), LABEL = sizeof(uint16_t) };
 
 static const struct question questions[] = {
     {'c', "check", 2, 0, 0, false},
@@ -63,6 +63,7 @@ static const struct question questions[] = {
     {'r', "corner", 2, 0, 0, false},
     {'h', "head", 2, 2, 0, false},
     {'a', "area2", 2, 0, sizeof(int64_t), false},
+    {'w', "faces", 2, 0, LABEL, true},
     {'u', "union", 2, 2, 2, true},
     {'i', "intersection", 2, 2, 2, true},
     {'d', "difference", 2, 2, 2, true},
@@ -115,6 +116,16 @@ static const struct question *question_of(char letter)
     return NULL;
 }
 
+// How many bytes the first of two things has that are lent; all of them where only one thing is.
+static size_t first_lent(const struct entry *e)
+{
+    switch (e->asked->letter) {
+    case 'g': return PRESSURE;
+    case 'w': return (size_t)(uint16_t)e->x * LABEL;
+    default: return e->lent;
+    }
+}
+
 // Whether an array of so many bytes has whole elements, and none where there is no such array.
 static bool is_whole(size_t bytes, size_t element)
 {
@@ -136,7 +147,7 @@ static void read_front(struct entry *e, const unsigned char *front)
         bad_tape("an array is longer than a tape may have");
     const struct question *q = e->asked;
     bool lent_is_whole = q->any_number ? is_whole(e->lent, q->lent) : e->lent == q->lent;
-    if (!is_whole(e->n1, q->first) || !is_whole(e->n2, q->second) || !lent_is_whole)
+    if (!is_whole(e->n1, q->first) || !is_whole(e->n2, q->second) || !lent_is_whole || first_lent(e) > e->lent)
         bad_tape("an array's size is not one that its question has");
 }
 
@@ -175,8 +186,8 @@ enum layout { ENDING, BEGINNING, ON_HEAP };
 
 static const char *const layouts[] = {"before a page without access", "after a page without access", "on the heap"};
 
-// What is passed for a question: the two arrays that are read and what is lent, of which a gauge's row lies by itself.
-enum { FIRST, SECOND, LENT, LENT_ROW, PARTS };
+// What is passed for a question: the two arrays that are read, and one or two things that are lent, each by itself.
+enum { FIRST, SECOND, LENT, ALSO_LENT, PARTS };
 
 // A part has pages of its own, all without access but for those that hold the array while a question is asked.
 static struct part {
@@ -262,28 +273,30 @@ static void set_part(int which, bool is_lent, const unsigned char *before, const
 
 static void set_parts(const struct entry *e)
 {
-    size_t split = e->asked->letter == 'g' ? PRESSURE : e->lent;
+    size_t split = first_lent(e);
     set_part(FIRST, false, e->array1, e->array1, e->n1);
     set_part(SECOND, false, e->array2, e->array2, e->n2);
     set_part(LENT, true, e->before, e->after, split);
-    set_part(LENT_ROW, true, e->before + split, e->after + split, e->lent - split);
+    set_part(ALSO_LENT, true, e->before + split, e->after + split, e->lent - split);
 }
 
 static uint64_t answer_to(const struct entry *e)
 {
     const int16_t *chart = (const void *)parts[FIRST].array, *other = (const void *)parts[SECOND].array;
-    void *lent = parts[LENT].array, *lent_row = parts[LENT_ROW].array;
-    size_t n = e->n1 / sizeof *chart, m = e->n2 / sizeof *other, room = e->lent / sizeof(int16_t);
+    void *lent = parts[LENT].array, *also_lent = parts[ALSO_LENT].array;
+    size_t n = e->n1 / sizeof *chart, m = e->n2 / sizeof *other;
+    size_t room = parts[LENT].length / sizeof(int16_t), also_room = parts[ALSO_LENT].length / sizeof(int16_t);
     switch (e->asked->letter) {
     case 'c': return bz_check(chart, n);
     case 'p': return bz_point(chart, n, e->x, e->y);
     case 'r': return bz_corner(chart, n, e->x, e->y);
     case 'h': return bz_head(chart, n, other, m);
     case 'a': return bz_area2(chart, n, lent);
+    case 'w': return bz_faces(chart, n, lent, room, also_lent, also_room);
     case 'u': return bz_union(chart, n, other, m, lent, room);
     case 'i': return bz_intersection(chart, n, other, m, lent, room);
     case 'd': return bz_difference(chart, n, other, m, lent, room);
-    case 'g': return bz_gauge(e->kind, e->first, e->second, e->x, lent, lent_row);
+    case 'g': return bz_gauge(e->kind, e->first, e->second, e->x, lent, also_lent);
     default: return bz_read(parts[FIRST].array, e->n1, lent, room);
     }
 }

@@ -7,7 +7,7 @@ ghost use Rattle.counts.specs.Scan.{Found, Counted};
 ghost use Rattle.plane.specs.Points.{isSegment};
 ghost use Rattle.plane.specs.Touching.{touches};
 ghost use Rattle.plane.specs.Columns.{endsAt, countedFor};
-ghost use Rattle.record.specs.Records.{width, recordAt, records};
+ghost use Rattle.record.specs.Records.{width, recordAt, recordCount, records};
 ghost use Rattle.segment.specs.Segments.{ofSegment, isRecord};
 ghost use Rattle.among.specs.Among.{has, hasSegment, touched, endCount, countedMark};
 use plane::Point;
@@ -31,6 +31,14 @@ fn first_same(s: &[i16], n: usize, e: Record) -> usize
         i += 1;
     }
     n
+}
+
+// The place of the record, with its mark; the number of records where it is not there.
+pub fn place_of(s: &[i16], e: Record) -> usize
+    ensures { λ i. ⌜ Found (isRecord e) (recordAt (now (s .entry))) 0 (recordCount (now (s .entry))) i ⌝ }
+{
+    let n = s.len() / WIDTH;
+    first_same(s, n, e)
 }
 
 // Whether the record is there, with its mark.

@@ -15,3 +15,8 @@ pub mod ScanLaws
 pub mod LoopLaws
 pub mod ReadLaws
 pub mod TopmostLaws
+pub mod JoinedLaws
+pub mod RepeatLaws
+pub mod ShareLaws
+pub mod TurnsLaws
+pub mod CountedPlaceLaws

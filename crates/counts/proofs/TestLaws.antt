@@ -1,7 +1,8 @@
 -- Laws of tests and of how two numbers lie to each other, for any caller.
 --     tests          for `omega`: a test on numbers that passed or failed is the fact it tests
 --     and-true, and-intro, or-true, or-left, or-right    tests joined by 'and' and 'or'
---     and-comm, and-same, is-false, not-true, not-false, same-test, xor-back, xor-self    of Booleans
+--     and-comm, and-same, is-false, not-true, not-false, same-test, xor-back, xor-self, xor-none, xor-both    of
+--                   Booleans
 --     lt-or-le, Side, side                  of two numbers, by cases
 --     leb-not, leb-ltb, eqb-swap            of tests on two numbers
 --     or-is, and-is, ltb-is, leb-is, eqb-is, not-ltb-is    a test, or two joined, and what it tests, both ways
@@ -77,6 +78,14 @@ xor-back false false = refl
 pub xor-self : (a b : Bool) → a ≡ b → a ⊕ b ≡ false
 xor-self a true e = ap (λ b. b ⊕ true) e
 xor-self a false e = ap (λ b. b ⊕ false) e
+
+pub xor-none : (a b : Bool) → a ⊕ b ≡ false → a ≡ b
+xor-none true b h = sym (not-false b h)
+xor-none false b h = sym h
+
+pub xor-both : (a b c : Bool) → a ⊕ b ≡ true → a ⊕ c ≡ true → b ≡ c
+xor-both true b c h g = not-true b h ∙ sym (not-true c g)
+xor-both false b c h g = h ∙ sym g
 
 -- ---- two numbers
 

@@ -9,6 +9,7 @@
 --     odd n, Even n     the parity of a count, as a test and as a fact
 --     a ⊕ b             exactly one of the two
 --     listed f a k      f a, f (a + 1), .. : k of them
+--     places n          0, 1, .. : n of them
 -- Assumes nothing.
 use mathlib.Core.Path.{_≡_}
 use mathlib.Core.Bool.{Bool, true, false, not, cond, _&&_, _||_}
@@ -61,3 +62,6 @@ false ⊕ b = b
 unfoldable pub listed : {A : Type 0} → (ℕ → A) → ℕ → ℕ → List A
 listed f a zero = []
 listed f a (suc k) = f a ∷ listed f (suc a) k
+
+abbrev pub places : ℕ → List ℕ
+places n = listed (λ i. i) 0 n

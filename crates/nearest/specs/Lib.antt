@@ -1,1 +1,2 @@
 pub mod Nearests
+pub mod Passes

@@ -1,16 +1,17 @@
 // The segment nearest below a point of a chart, and where the point lies by that segment's mark alone. Each judges the
 // chart first and hands a refusal on; callers check nothing.
 ghost use mathlib.Core.Path.{_≡_};
-ghost use Prim.Native.Nat.{_+_, _*_, _≤_, _<_};
+ghost use Prim.Native.Nat.{_*_, _≤_, _<_};
 ghost use lib.ListN.{length};
 ghost use Rattle.counts.specs.Count.{odd};
 ghost use Rattle.counts.specs.Scan.{Found};
 ghost use Rattle.grid.specs.Coordinates.{pointOf};
-ghost use Rattle.record.specs.Records.{width, recordAt, firstRecords};
+ghost use Rattle.record.specs.Records.{width, recordAt, recordCount, records};
 ghost use Rattle.chart.specs.Regions.{Sound};
-ghost use Rattle.region.specs.Boundaries.{counted, below, higherBelow, nearest};
+ghost use Rattle.region.specs.Boundaries.{counted, below, higherBelow};
 ghost use Rattle.question.specs.Places.{placed};
 ghost use Rattle.nearest.specs.Nearests.{nearestOf, nearestBelow};
+ghost use Rattle.nearest.specs.Passes.{Highest};
 use chart::Refusal;
 use chart::Verdict;
 use chart::check;
@@ -53,12 +54,12 @@ fn first_below(s: &[i16], n: usize, p: Point) -> usize
     n
 }
 
-// The first record that is nearest below p, n where there is none. Each is compared with the highest so far alone: in a
-// sound chart which of two is higher is an order.
-fn first_nearest(s: &[i16], n: usize, p: Point) -> usize
-    requires { ⌜ (width * n ≤ length (now s)) × Sound (firstRecords (now s) n) ⌝ }
-    ensures { λ r. ⌜ Found (nearest (firstRecords (now (s .entry)) n) p) (recordAt (now (s .entry))) 0 n r ⌝ }
+// The first of the highest below p, the number of records where there is none. Each is compared with the highest so far
+// alone: in a sound chart, where which of two is higher is an order, that is the first that is nearest.
+pub fn highest_below(s: &[i16], p: Point) -> usize
+    ensures { λ b. ⌜ Highest (now (s .entry)) p b ⌝ }
 {
+    let n = s.len() / WIDTH;
     let mut top = first_below(s, n, p);
     let mut i = top;
     while i < n {
@@ -72,11 +73,12 @@ fn first_nearest(s: &[i16], n: usize, p: Point) -> usize
     top
 }
 
-fn nearest_of(s: &[i16], n: usize, p: Point) -> Nearest
-    requires { ⌜ (width * n ≤ length (now s)) × Sound (firstRecords (now s) n) ⌝ }
-    ensures { λ a. ⌜ a ≡ nearestOf (now (s .entry)) n p ⌝ }
+fn nearest_of(s: &[i16], p: Point) -> Nearest
+    requires { ⌜ Sound (records (now s)) ⌝ }
+    ensures { λ a. ⌜ a ≡ nearestOf (now (s .entry)) (recordCount (now (s .entry))) p ⌝ }
 {
-    let i = first_nearest(s, n, p);
+    let n = s.len() / WIDTH;
+    let i = highest_below(s, p);
     if i < n {
         return Nearest::At(i);
     }
@@ -90,7 +92,7 @@ pub fn nearest_below(chart: &[i16], x: i16, y: i16) -> Nearest
     let p = grid::point_of(x, y);
     let v = check(chart);
     match v {
-        Verdict::Accepted => nearest_of(chart, chart.len() / WIDTH, p),
+        Verdict::Accepted => nearest_of(chart, p),
         Verdict::Refused(r) => Nearest::Refused(r),
     }
 }
@@ -98,11 +100,12 @@ pub fn nearest_below(chart: &[i16], x: i16, y: i16) -> Nearest
 // ---- where a point lies, by the mark of the nearest below
 
 // What `is_odd_below` answers, without the count.
-fn is_marked_below(s: &[i16], n: usize, p: Point) -> bool
-    requires { ⌜ (width * n ≤ length (now s)) × Sound (firstRecords (now s) n) ⌝ }
-    ensures { λ b. ⌜ b ≡ odd (below (firstRecords (now (s .entry)) n) p) ⌝ }
+fn is_marked_below(s: &[i16], p: Point) -> bool
+    requires { ⌜ Sound (records (now s)) ⌝ }
+    ensures { λ b. ⌜ b ≡ odd (below (records (now (s .entry))) p) ⌝ }
 {
-    let i = first_nearest(s, n, p);
+    let n = s.len() / WIDTH;
+    let i = highest_below(s, p);
     if i == n {
         return false;
     }
@@ -115,10 +118,9 @@ pub fn inside_by_mark(chart: &[i16], x: i16, y: i16) -> Place
     ensures { λ a. ⌜ a ≡ placed (now (chart .entry)) (pointOf x y) ⌝ }
 {
     let p = grid::point_of(x, y);
-    let n = chart.len() / WIDTH;
     let v = check(chart);
     match v {
-        Verdict::Accepted => place_by(question::is_edge(chart, p), is_marked_below(chart, n, p)),
+        Verdict::Accepted => place_by(question::is_edge(chart, p), is_marked_below(chart, p)),
         Verdict::Refused(why) => Place::Refused(why),
     }
 }

@@ -3,13 +3,15 @@
 --                       answered, and the place's kind
 --     corner-answer     it has where the run starts and how long it is
 --     head-answer       it has which array holds the smaller head
+--     faces-answer      it has the refusal of faces, number and index
+--     faces-counts      or how many cycles and how many faces there are
 --     join-answer       it has how many records were written, or the refusal, its index and the chart that it names
 --     read-answer       it has how many records were read, or the file's refusal and its place
 --     gauge-answer      it has the sample's refusal, and nothing else
 --     gauge-spring, gauge-bridge, gauge-other    what is read is what the card of that kind gives; 21 for any other
 --     same-bz-check, ..  any two outcomes of one call coincide, and so does what is lent back
 -- Assumes nothing.
-use mathlib.Core.Path.{_≡_, sym, _∙_}
+use mathlib.Core.Path.{_≡_, sym, ap₂, _∙_}
 use mathlib.Core.List.{List}
 use Prim.Native.Nat.{ℕ, _-_, _<_}
 use native.Mathlib.Omega.{arith}
@@ -26,6 +28,8 @@ use Rattle.area.specs.Areas.{areaOf}
 use Rattle.gauge.specs.declared.Card.the-variants.{Spring, Bridge}
 use Rattle.gauge.specs.declared.Gauged.{Gauged}
 use Rattle.gauge.specs.Readings.{refusedBy, Gauges}
+use Rattle.faces.specs.declared.FaceList.the-variants.{Listed}
+use Rattle.faces.specs.Lists.{facesOf, listRefusal}
 use Rattle.sides.specs.declared.Op.{Op}
 use Rattle.join.specs.Joinings as joining
 use Rattle.join.specs.Joinings.{joinRefusal, chartNamed, outcome}
@@ -33,11 +37,12 @@ use Rattle.file.specs.Files.{fileOf}
 use Rattle.file.specs.Answers.{answerOf, readRefusal}
 use Rattle.rig.specs.Bits.{valueOf, numberOf, lengthOf}
 use Rattle.rig.specs.Answers.{checkAnswer, placeKind, pointAnswer, cornerAnswer, headKind, headAnswer, areaAnswer}
-use Rattle.rig.specs.Answers.{joinValue, joinAnswer, readValue, readAnswer}
+use Rattle.rig.specs.Bits as bits
+use Rattle.rig.specs.Answers.{facesValue, facesAnswer, joinValue, joinAnswer, readValue, readAnswer}
 use Rattle.rig.specs.Gauging.{SampleRead}
 use Rattle.rig.proofs.BitLaws.{Decoded, packed-decoded}
 use Rattle.rig.proofs.DecodeLaws.{check-decoded, point-decoded, area-decoded, corner-decoded, read-decoded}
-use Rattle.rig.proofs.DecodeLaws.{join-decoded, sample-decoded}
+use Rattle.rig.proofs.DecodeLaws.{faces-decoded, counts-decoded, join-decoded, sample-decoded}
 use Rattle.rig.proofs.GaugingLaws.{by-spring, by-bridge, by-neither, sample-one}
 use Rattle.rig.proofs.bz_check.Kinds as bz-check-kinds
 use Rattle.rig.proofs.bz_check.Reads as bz-check
@@ -49,6 +54,8 @@ use Rattle.rig.proofs.bz_head.Kinds as bz-head-kinds
 use Rattle.rig.proofs.bz_head.Reads as bz-head
 use Rattle.rig.proofs.bz_area2.Kinds as bz-area2-kinds
 use Rattle.rig.proofs.bz_area2.Reads as bz-area2
+use Rattle.rig.proofs.bz_faces.Kinds as bz-faces-kinds
+use Rattle.rig.proofs.bz_faces.Reads as bz-faces
 use Rattle.rig.proofs.bz_union.Kinds as bz-union-kinds
 use Rattle.rig.proofs.bz_union.Reads as bz-union
 use Rattle.rig.proofs.bz_intersection.Kinds as bz-intersection-kinds
@@ -81,6 +88,15 @@ module _ (s : List ℤ) where
 
 pub head-answer : (h : Head) → Decoded (headAnswer h) 0 0 0 (headKind h)
 head-answer h = packed-decoded 0 0 0 (headKind h) (omega arith) (omega arith) (omega arith)
+
+module _ (s : List ℤ) (labels cycles : List ℕ) where
+  pub faces-answer : let a = facesOf s (length labels) (length cycles) in
+      Decoded (facesAnswer a) (facesValue a) (listRefusal a .number) 0 0
+  faces-answer = faces-decoded s labels cycles
+
+  pub faces-counts : (m k : ℕ) → let a = facesOf s (length labels) (length cycles) in
+      a ≡ Listed m k → (bits.cyclesOf (facesAnswer a) ≡ m) × (bits.facesOf (facesAnswer a) ≡ k)
+  faces-counts = counts-decoded s labels cycles
 
 pub join-answer : (op : Op) (a b lent : List ℤ) → let j = joining.answerOf (outcome op a b (length lent)) in
     Decoded (joinAnswer j) (joinValue j) (joinRefusal j .number) (chartNamed j) 0
@@ -125,6 +141,14 @@ same-bz-head κs a v w s t h k = h ∙ sym k
 
 pub same-bz-area2 : SettledLent 2 bz-area2-kinds.ps bz-area2-kinds.r ℕ ℤ (λ κs s. now (s .1 .0)) bz-area2.Post
 same-bz-area2 κs a v w s t h k = (h .0 ∙ sym (k .0), h .1 ∙ sym (k .1))
+
+-- the labels and the cycles
+pub same-bz-faces : SettledLent 3 bz-faces-kinds.ps bz-faces-kinds.r ℕ (List ℕ × List ℕ)
+    (λ κs s. (now (s .1 .0), now (s .1 .1 .0))) bz-faces.Post
+same-bz-faces κs a v w s t h k = (
+  h .says ∙ sym (k .says),
+  ap₂ (λ l c. (l, c)) (h .labelled ∙ sym (k .labelled)) (h .listed ∙ sym (k .listed)),
+)
 
 pub same-bz-union : SettledLent 3 bz-union-kinds.ps bz-union-kinds.r ℕ (List ℤ) (λ κs s. now (s .1 .1 .0)) bz-union.Post
 same-bz-union κs a v w s t h k = (h .says ∙ sym (k .says), h .leaves ∙ sym (k .leaves))

@@ -4,7 +4,7 @@
 -- Assumes nothing.
 use mathlib.Core.Path.{_≡_, refl}
 use mathlib.Core.Bool.{true, false}
-use mathlib.Core.List.{[]}
+use mathlib.Core.List.{[], _∷_}
 use lib.IntN.{pos, negsuc}
 use lib.Ieee.{fin, fits}
 use Rattle.counts.specs.Count.{sum, keep, any, firstIndex, listed}
@@ -22,6 +22,12 @@ use Rattle.area.specs.declared.Area.the-variants.{Twice}
 use Rattle.area.specs.Areas.{total, share, areaOf}
 use Rattle.question.specs.declared.Place.the-variants.{Inside, Edge, Outside}
 use Rattle.question.specs.Places.{placeOf, placed}
+use Rattle.walks.specs.Ways.{wayBack, clockwise, walked}
+use Rattle.walks.specs.Walks.{onward, cutAt, walkAll, cyclesOf}
+use Rattle.walks.specs.Cycles.{least, startOf, firstThat, cycleOf, firstOf, cycleNumber}
+use Rattle.walks.specs.Faces.{isOuter, faceNumber, outerIn, smallest, nearestTo, faceFrom}
+use Rattle.faces.specs.declared.FaceList.the-variants.{Listed}
+use Rattle.faces.specs.Lists.{labelsOf, entriesOf, cycleList, listedIn, facesOf}
 use Rattle.combined.specs.Kept.{either}
 use Rattle.combined.specs.Results.{inserted, inOrder}
 use Rattle.sides.specs.declared.Op.the-variants.{Union, Intersection, Difference}
@@ -45,6 +51,10 @@ pub record Starred : Type 0 where
   pub hole-outside : placed squareWithHole (pointOf (pos 1) (pos 1)) ≡ Outside
   pub hole-inside : placed squareWithHole (pointOf (pos 3) (pos 3)) ≡ Inside
   pub hole-area : areaOf squareWithHole ≡ Twice (pos 29)
+  pub hole-faces : facesOf squareWithHole 14 4 ≡ Listed 2 1
+  pub hole-labels : labelsOf squareWithHole
+      ≡ 0 ∷ 1 ∷ 1 ∷ 0 ∷ 0 ∷ 0 ∷ 1 ∷ 1 ∷ 1 ∷ 1 ∷ 0 ∷ 0 ∷ 0 ∷ 0 ∷ []
+  pub hole-cycles : cycleList squareWithHole ≡ 0 ∷ 0 ∷ 1 ∷ 0 ∷ []
   pub triangle-accepted : verdict largeTriangle ≡ Accepted
   pub triangle-inside : placed largeTriangle (pointOf (negsuc 0) (negsuc 0)) ≡ Inside
   pub triangle-edge : placed largeTriangle (pointOf (pos 0) (negsuc 0)) ≡ Edge
@@ -64,6 +74,8 @@ pub starred : Starred
 unfolding sum keep any firstIndex listed firstFrom up recordAt precedes earlier leads squareLength segment isRecord
     touches splits within turnsLeft turnsRight straight countedFor endsAt belowPoint holds
     verdict judged placeOf placed total share areaOf either inserted inOrder joinedIn outcome
+    wayBack clockwise walked onward cutAt walkAll cyclesOf least startOf firstThat cycleOf firstOf cycleNumber
+    isOuter faceNumber outerIn smallest nearestTo faceFrom entriesOf listedIn facesOf
     fits size isMultiple hasMinus units isFactor isFrom sound pressure row atPin refusal
 starred = record {
   square-accepted = refl;
@@ -77,6 +89,9 @@ starred = record {
   hole-outside = refl;
   hole-inside = refl;
   hole-area = refl;
+  hole-faces = refl;
+  hole-labels = refl;
+  hole-cycles = refl;
   triangle-accepted = refl;
   triangle-inside = refl;
   triangle-edge = refl;

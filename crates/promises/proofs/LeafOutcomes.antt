@@ -1,7 +1,8 @@
 -- The public functions that the questions rest on: any two outcomes that one promise allows coincide.
 -- Assumes nothing.
-use mathlib.Core.Path.{sym, _∙_}
+use mathlib.Core.Path.{_≡_, sym, ap, ap₂, _∙_}
 use mathlib.Core.Bool.{Bool}
+use mathlib.Core.List.{List}
 use Prim.Native.Nat.{ℕ}
 use lib.IntN.{ℤ}
 use Rattle.plane.specs.declared.Point.{Point}
@@ -10,7 +11,10 @@ use Rattle.grid.specs.declared.Coord.{Coord}
 use Rattle.grid.specs.declared.Located.{Located}
 use Rattle.points.specs.declared.Turn.{Turn}
 use Rattle.record.specs.declared.Record.{Record}
+use Rattle.chart.specs.declared.Verdict.{Verdict}
 use Rattle.question.specs.declared.Place.{Place}
+use Rattle.cycles.specs.declared.Cycles.{Cycles}
+use Rattle.cycles.specs.Circles.{Circled}
 use Rattle.grid.proofs.Coord.new.Kinds as new-kinds
 use Rattle.grid.proofs.Coord.new.Reads as new
 use Rattle.grid.proofs.Coord.least.Kinds as least-kinds
@@ -81,12 +85,18 @@ use Rattle.among.proofs.end_count.Kinds as end-count-kinds
 use Rattle.among.proofs.end_count.Reads as end-count
 use Rattle.among.proofs.counted_mark.Kinds as counted-mark-kinds
 use Rattle.among.proofs.counted_mark.Reads as counted-mark
+use Rattle.among.proofs.place_of.Kinds as place-of-kinds
+use Rattle.among.proofs.place_of.Reads as place-of
 use Rattle.question.proofs.is_below.Kinds as is-below-kinds
 use Rattle.question.proofs.is_below.Reads as is-below
 use Rattle.question.proofs.is_edge.Kinds as is-edge-kinds
 use Rattle.question.proofs.is_edge.Reads as is-edge
 use Rattle.question.proofs.place_by.Kinds as place-by-kinds
 use Rattle.question.proofs.place_by.Reads as place-by
+use Rattle.nearest.proofs.highest_below.Kinds as highest-below-kinds
+use Rattle.nearest.proofs.highest_below.Reads as highest-below
+use Rattle.cycles.proofs.cycles_of.Kinds as cycles-of-kinds
+use Rattle.cycles.proofs.cycles_of.Reads as cycles-of
 use Rattle.sides.proofs.is_kept_first.Kinds as is-kept-first-kinds
 use Rattle.sides.proofs.is_kept_first.Reads as is-kept-first
 use Rattle.sides.proofs.is_kept_second.Kinds as is-kept-second-kinds
@@ -210,6 +220,9 @@ same-end-count κs a v w s t h k = h ∙ sym k
 pub same-counted-mark : Settled 1 counted-mark-kinds.ps counted-mark-kinds.r ℕ counted-mark.Post
 same-counted-mark κs a v w s t h k = h ∙ sym k
 
+pub same-place-of : Settled 1 place-of-kinds.ps place-of-kinds.r ℕ place-of.Post
+same-place-of κs a v w s t h k = h .is ∙ sym (k .is)
+
 -- ---- question
 
 pub same-is-below : Settled 0 is-below-kinds.ps is-below-kinds.r Bool is-below.Post
@@ -220,6 +233,25 @@ same-is-edge κs a v w s t h k = h ∙ sym k
 
 pub same-place-by : Settled 0 place-by-kinds.ps place-by-kinds.r Place place-by.Post
 same-place-by κs a v w s t h k = h ∙ sym k
+
+-- ---- nearest
+
+pub same-highest-below : Settled 1 highest-below-kinds.ps highest-below-kinds.r ℕ highest-below.Post
+same-highest-below κs a v w s t h k = h .is ∙ sym (k .is)
+
+-- ---- cycles
+
+-- the verdict, the starts and the first records are all that is answered
+circled-one : (s : List ℤ) (c d : Cycles) → Circled s c → Circled s d → c ≡ d
+circled-one s c d h k =
+    ap₂ (λ v l. made v l (c .firsts)) (h .judged ∙ sym (k .judged)) (h .starts ∙ sym (k .starts))
+    ∙ ap (made (d .verdict) (d .starts)) (h .firsts ∙ sym (k .firsts))
+  where
+    made : Verdict → List ℕ → List ℕ → Cycles
+    made v starts firsts = record { verdict = v; starts = starts; firsts = firsts }
+
+pub same-cycles-of : Settled 1 cycles-of-kinds.ps cycles-of-kinds.r Cycles cycles-of.Post
+same-cycles-of κs a v w s t h k = circled-one _ v w h k
 
 -- ---- sides
 

@@ -1,6 +1,8 @@
 pub mod Settled
 pub mod Promises
 pub mod Joining
+pub mod Walks
+pub mod Faces
 pub mod Refusals
 pub mod Outcomes
 pub mod LeafOutcomes

@@ -5,6 +5,7 @@
 --     same-read-sample  the refusal's number, the pressure as a float and the row, for every card and sample
 --     same-read         the answer and the lent array, for every file and array
 --     same-combine      the answer and the lent array, for every two arrays and every array lent
+--     same-faces        the answer and both lent arrays, for every array and every two arrays lent
 --     same-joins        or, and, and-not
 --     same-take-number, same-signed-of    one number of a file
 --     same-corner, same-run-at, same-smaller-head               the part: its numbers, the array it lies in, its place
@@ -14,6 +15,7 @@
 use mathlib.Core.Path.{_≡_, sym, _∙_}
 use mathlib.Core.Bool.{Bool}
 use mathlib.Core.List.{List}
+use Prim.Native.Nat.{ℕ}
 use denote.Ref.{RefT, now}
 use lib.IntN.{ℤ}
 use contract.Lifetimes.{Lfts}
@@ -43,6 +45,10 @@ use Rattle.gauge.proofs.read_sample.Reads as read-sample
 use Rattle.join.specs.declared.Joined.{Joined}
 use Rattle.join.proofs.combine.Kinds as combine-kinds
 use Rattle.join.proofs.combine.Reads as combine
+use Rattle.faces.specs.declared.FaceList.{FaceList}
+use Rattle.faces.proofs.OutcomeLaws.{lists-one}
+use Rattle.faces.proofs.faces.Kinds as faces-kinds
+use Rattle.faces.proofs.faces.Reads as faces
 use Rattle.sides.proofs.joins.Kinds as joins-kinds
 use Rattle.sides.proofs.joins.Reads as joins
 use Rattle.file.specs.declared.Answer.{Answer}
@@ -107,6 +113,13 @@ same-joins κs a v w s t h k = h ∙ sym k
 pub same-combine : SettledLent 3 combine-kinds.ps combine-kinds.r Joined (List ℤ) (λ κs s. now (s .1 .1 .1 .0))
     combine.Post
 same-combine κs a v w s t h k = (h .says ∙ sym (k .says), h .leaves ∙ sym (k .leaves))
+
+-- ---- faces
+
+-- the labels and the cycles
+pub same-faces : SettledLent 3 faces-kinds.ps faces-kinds.r FaceList (List ℕ × List ℕ)
+    (λ κs s. (now (s .1 .0), now (s .1 .1 .0))) faces.Post
+same-faces κs a v w s t h k = lists-one h k
 
 -- ---- file
 

@@ -1,6 +1,7 @@
 -- An accepted chart as the theory takes it: its records as the list of its segments, each left half standing for one.
 --     segments rs                    that list
 --     ofSegment-count, ofSegment-any     counting records by their segments is counting segments
+--     segments-sum                   a sum over the left halves is a sum over the segments
 --     segments-mem, mem-segments     its members are the segments of the left halves
 --     upperSide-is, lowerSide-is     the two sides of a segment over the records are those over the segments
 --     room rs                        a column past every one of them
@@ -8,11 +9,11 @@
 -- Assumes nothing.
 use mathlib.Core.Path.{_≡_, refl, sym, ap, ap₂, _∙_}
 use mathlib.Core.Logic.{_⊎_, inl, inr}
-use mathlib.Core.Bool.{Bool, true, false, true≢false}
-use mathlib.Core.List.{List, map}
-use Prim.Native.Nat.{ℕ, suc, _<_}
+use mathlib.Core.Bool.{Bool, true, false, cond, true≢false}
+use mathlib.Core.List.{List, [], _∷_, map}
+use Prim.Native.Nat.{ℕ, suc, _+_, _*_, _<_}
 use native.Mathlib.Omega.{arith}
-use Rattle.counts.specs.Count.{_∈_, sum, count, keep, any, odd, _⊕_}
+use Rattle.counts.specs.Count.{_∈_, ind, sum, count, keep, any, odd, _⊕_}
 use Rattle.counts.proofs.SumLaws.{sum-member}
 use Rattle.counts.proofs.CountLaws.{count-keep, keep-mem, mem-keep, any-keep}
 use Rattle.counts.proofs.MapLaws.{count-map, any-map, map-mem, mem-map}
@@ -39,6 +40,17 @@ module _ (q : Segment → Bool) (rs : List Record) where
 
   pub ofSegment-any : any (ofSegment q) rs ≡ any q (segments rs)
   ofSegment-any = sym (any-map segment q (keep left rs) ∙ any-keep left (λ r. q (segment r)) rs)
+
+pub segments-sum : (v : Segment → ℕ) (C : List Record) → sum (λ r. ind (left r) * v (segment r)) C ≡ sum v (segments C)
+unfolding sum keep
+segments-sum v [] = refl
+segments-sum v (r ∷ rs) = go (left r) (segments-sum v rs)
+  where
+    go : (b : Bool) → sum (λ r. ind (left r) * v (segment r)) rs ≡ sum v (segments rs)
+        → ind b * v (segment r) + sum (λ r. ind (left r) * v (segment r)) rs
+        ≡ sum v (map segment (cond b (r ∷ keep left rs) (keep left rs)))
+    go true h = omega arith
+    go false h = omega arith
 
 module _ (rs : List Record) (s : Segment) where
   pub upperSide-is : upperSide rs s ≡ upper (segments rs) s

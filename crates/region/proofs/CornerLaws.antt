@@ -1,4 +1,5 @@
 -- How the parities left and right of a column differ, at a point p of it that lies inside no segment of a chart.
+--     across-ends     across the height of p lies just what ends there from below
 --     corner-below    below p they differ exactly if a vertical segment ends there, from below
 --     corner-upTo     at or below p they differ exactly if one starts there, upwards
 -- Assumes nothing.
@@ -56,7 +57,7 @@ module _ {W : ℕ} (M : ℕ) (scale : Scale W M) {ss : List Segment} (sound : So
       go (inl h) = absurd (omega arith)
       go (inr h) = mul-lt-mul-of-pos-left {k = 2 * M} (h .1) (omega (arith, scale .positive))
 
-  across-ends : (t : Segment) → t ∈ ss → across M (p .x) (2 * M * p .y) t ≡ endsUp p t
+  pub across-ends : (t : Segment) → t ∈ ss → across M (p .x) (2 * M * p .y) t ≡ endsUp p t
   across-ends t m = same-test _ _ to from
     where
       to : across M (p .x) (2 * M * p .y) t ≡ true → endsUp p t ≡ true

@@ -1,6 +1,7 @@
 -- Demand 3, first part, over the records of a sound chart and any point: the mark of the nearest segment below says
 -- what the number of all segments below says.
 --     peak rs p r         how high the segment of r lies in the strip right of p
+--     marked-is           a mark that is the counted one is 1 exactly where the number is odd
 --     higherBelow-peak    of what is counted below p, the higher has the greater peak
 --     nearest-in          a nearest record is a left half whose segment is the nearest of the chart's; both ways
 --     nearest-one         there is one nearest record at the most
@@ -38,8 +39,7 @@ use Rattle.region.proofs.NearestLaws as near
 pub peak : List Record → Point → Record → ℕ
 peak rs p r = key (unit (room rs)) (segment r) (p .x)
 
--- a mark that is the counted one is 1 exactly where the number is odd
-marked-is : (b : Bool) → eqb (cond b marked unmarked) marked ≡ b
+pub marked-is : (b : Bool) → eqb (cond b marked unmarked) marked ≡ b
 unfolding up
 marked-is true = refl
 marked-is false = refl

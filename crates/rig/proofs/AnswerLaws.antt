@@ -2,12 +2,14 @@
 --     index-small                            the index of a chart's refusal
 --     check-small, point-small, area-small   so, of the refusal that each question gives
 --     corner-small                           a run's start and length
+--     faces-small                            the numbers of cycles and faces, and the index of a refusal
 --     join-small                             the number of records written, and the index of a refusal of joining
 --     records-small, place-small             the number of records read, and the place of a file's refusal
 --     area-told, area-refused                the two returns of the area
+--     faces-told                             the return of the faces
 --     join-told                              the return of joining
 -- Assumes nothing.
-use mathlib.Core.Path.{_≡_, refl, sym, ap, _∙_}
+use mathlib.Core.Path.{_≡_, refl, sym, ap, _∙_, subst}
 use mathlib.Core.List.{List}
 use Prim.Native.Nat.{ℕ, _*_, _^_, _<_, _≤_}
 use native.Mathlib.Omega.{arith}
@@ -33,6 +35,10 @@ use Rattle.area.specs.declared.Area.{Area}
 use Rattle.area.specs.declared.Area.the-variants as area
 use Rattle.area.specs.Areas.{areaRefusal, areaOf}
 use Rattle.area.proofs.AreaLaws.{areaOf-refusal}
+use Rattle.faces.specs.declared.FaceList.{FaceList}
+use Rattle.faces.specs.declared.FaceList.the-variants as faces
+use Rattle.faces.specs.Lists.{labelsOf, cycleList, contents, listRefusal, Lists}
+use Rattle.faces.proofs.OutcomeLaws.{lists-told, counts-small, facesOf-told}
 use Rattle.sides.specs.declared.Op.{Op}
 use Rattle.join.specs.declared.Joined.{Joined}
 use Rattle.join.specs.declared.Joined.the-variants as join
@@ -44,7 +50,8 @@ use Rattle.file.specs.Answers.{Reads}
 use Rattle.file.proofs.AnswerLaws.{reads-took, reads-refused}
 use Rattle.file.proofs.RefusalLaws.{fileOf-told}
 use Rattle.rig.specs.Bits.{packed, ofRefusal}
-use Rattle.rig.specs.Answers.{areaAnswer, areaLeft, joinValue, joinAnswer, Combines}
+use Rattle.rig.specs.Answers.{areaAnswer, areaLeft, facesValue, facesAnswer, FacesListed}
+use Rattle.rig.specs.Answers.{joinValue, joinAnswer, Combines}
 
 -- ---- of a chart
 
@@ -74,6 +81,28 @@ module _ (s : List ℤ) where
 
     pub corner-small : {a : Span} → a ≡ cornerOf s p → (a .from ≤ a .upto) × (a .upto ≤ width * limit)
     corner-small e = (corner-within s p e .0, corner-short s p e)
+
+-- ---- of faces
+
+pub faces-small : (s : List ℤ) (labels cycles labels′ cycles′ : List ℕ) {a : FaceList}
+    → Lists s labels cycles labels′ cycles′ a → facesValue a < 2 ^ 32
+faces-small s labels cycles labels′ cycles′ {a} lists = go a refl
+  where
+    go : (b : FaceList) → a ≡ b → facesValue b < 2 ^ 32
+    go (faces.Listed m k) e =
+        let few = counts-small (lists-told (subst (Lists s labels cycles labels′ cycles′) e lists)) in
+        omega (arith, few)
+    go (faces.Refused r) e =
+        let told = facesOf-told s (length labels) (length cycles) in
+        omega (arith, told .1, ap (λ b. listRefusal b .index) (sym (lists .says) ∙ e))
+
+pub faces-told : (s : List ℤ) (labels cycles labels′ cycles′ : List ℕ) {a : FaceList} {n : ℕ}
+    → Lists s labels cycles labels′ cycles′ a → n ≡ facesAnswer a → FacesListed s labels cycles labels′ cycles′ n
+faces-told s labels cycles labels′ cycles′ lists e = record {
+  says = e ∙ ap facesAnswer (lists .says);
+  labelled = lists .labelled ∙ ap (λ b. contents b (labelsOf s) labels) (lists .says);
+  listed = lists .listed ∙ ap (λ b. contents b (cycleList s) cycles) (lists .says);
+}
 
 -- ---- of two charts
 

@@ -1,6 +1,8 @@
 -- What a caller reads from an answer is what the library answers.
 --     check-decoded, point-decoded, area-decoded    the chart's refusal, number and index; and the kind of place
 --     corner-decoded                                where the run starts, and how many numbers it has
+--     faces-decoded                                 the refusal of faces, number and index
+--     counts-decoded                                how many cycles and faces there are
 --     join-decoded                                  how many records were written, or the refusal, its index and the
 --                                                   chart that it names
 --     read-decoded                                  how many records were read, or a file's refusal and its place
@@ -22,6 +24,11 @@ use Rattle.question.specs.Corners.{cornerOf}
 use Rattle.question.proofs.RefusalLaws.{placed-refusal}
 use Rattle.area.specs.Areas.{areaOf}
 use Rattle.area.proofs.AreaLaws.{areaOf-refusal}
+use Rattle.faces.specs.declared.FaceList.{FaceList}
+use Rattle.faces.specs.declared.FaceList.the-variants.{Listed}
+use Rattle.faces.specs.Lists as lists
+use Rattle.faces.specs.Lists.{labelsOf, cycleList, facesOf, listRefusal, Lists}
+use Rattle.faces.proofs.OutcomeLaws.{lists-told, counts-small, facesOf-told}
 use Rattle.sides.specs.declared.Op.{Op}
 use Rattle.join.specs.Joinings as joining
 use Rattle.join.specs.Joinings.{Outcome, joined, refused, joinRefusal, chartNamed, outcome, Joins}
@@ -32,10 +39,11 @@ use Rattle.file.specs.Answers.{answerOf, readRefusal, contents, Reads}
 use Rattle.file.proofs.RefusalLaws.{fileOf-told, numbers}
 use Rattle.rig.specs.Bits.{packed, valueOf, numberOf, lengthOf}
 use Rattle.rig.specs.Answers.{checkAnswer, placeKind, pointAnswer, cornerAnswer, areaAnswer}
-use Rattle.rig.specs.Answers.{joinValue, joinAnswer, readValue, readAnswer}
+use Rattle.rig.specs.Bits as bits
+use Rattle.rig.specs.Answers.{facesValue, facesAnswer, joinValue, joinAnswer, readValue, readAnswer}
 use Rattle.rig.specs.Gauging.{SampleRead}
 use Rattle.rig.proofs.BitLaws.{Decoded, packed-decoded}
-use Rattle.rig.proofs.AnswerLaws.{corner-small, join-small, records-small, place-small}
+use Rattle.rig.proofs.AnswerLaws.{corner-small, faces-small, join-small, records-small, place-small}
 
 -- ---- of a chart
 
@@ -67,6 +75,28 @@ module _ (s : List ℤ) where
     corner-decoded =
         let w = corner-small s p refl in
         (omega (arith, w .0, w .1), omega (arith, w .0, w .1))
+
+-- ---- of faces
+
+module _ (s : List ℤ) (labels cycles : List ℕ) where
+  abbrev answer : FaceList
+  answer = facesOf s (length labels) (length cycles)
+
+  told : Lists s labels cycles (lists.contents answer (labelsOf s) labels) (lists.contents answer (cycleList s) cycles)
+      answer
+  told = record { says = refl; labelled = refl; listed = refl }
+
+  pub faces-decoded : Decoded (facesAnswer answer) (facesValue answer) (listRefusal answer .number) 0 0
+  faces-decoded =
+      packed-decoded (facesValue answer) (listRefusal answer .number) 0 0 (faces-small s labels cycles _ _ told)
+      (omega (arith, facesOf-told s (length labels) (length cycles) .0)) (omega arith)
+
+  pub counts-decoded : (m k : ℕ) → answer ≡ Listed m k
+      → (bits.cyclesOf (facesAnswer answer) ≡ m) × (bits.facesOf (facesAnswer answer) ≡ k)
+  unfolding packed bits.cyclesOf bits.facesOf
+  counts-decoded m k e =
+      let few = counts-small (lists-told (subst (Lists s labels cycles _ _) e told)) in
+      rw e (omega (arith, few), omega (arith, few))
 
 -- ---- of two charts
 

@@ -7,6 +7,10 @@
 --     headKind h, headAnswer h      kind 0 neither, 1 the first array's head, 2 the second's
 --     areaAnswer a       refusal and index, or 0
 --     areaLeft a lent    twice the area; what was lent, where the chart is refused
+--     facesValue a, facesAnswer a   how many cycles in bits 0 to 15 and how many faces in bits 16 to 31; or refusal and
+--                        index
+--     FacesListed s labels cycles labels′ cycles′ n    n is the answer of the faces of s, and the arrays that were
+--                        labels and cycles are then labels′ and cycles′
 --     readValue a, readAnswer a     how many records were read; or refusal and place
 --     joinValue j, joinAnswer j     how many records were written; or refusal, index and the chart named
 --     Combines op a b lent out n    n is the answer of joining a and b, and the array that was `lent` is then `out`
@@ -28,6 +32,10 @@ use Rattle.question.specs.Places.{placeRefusal}
 use Rattle.area.specs.declared.Area.{Area}
 use Rattle.area.specs.declared.Area.the-variants as area
 use Rattle.area.specs.Areas.{areaRefusal}
+use Rattle.faces.specs.declared.FaceList.{FaceList}
+use Rattle.faces.specs.declared.FaceList.the-variants as faces
+use Rattle.faces.specs.Lists as lists
+use Rattle.faces.specs.Lists.{labelsOf, cycleList, facesOf, listRefusal}
 use Rattle.sides.specs.declared.Op.{Op}
 use Rattle.join.specs.declared.Joined.{Joined}
 use Rattle.join.specs.declared.Joined.the-variants as join
@@ -68,6 +76,18 @@ areaAnswer a = ofRefusal (areaRefusal a)
 abbrev pub areaLeft : Area → ℤ → ℤ
 areaLeft (area.Twice z) lent = z
 areaLeft (area.Refused r) lent = lent
+
+abbrev pub facesValue : FaceList → ℕ
+facesValue (faces.Listed m k) = m + 2 ^ 16 * k
+facesValue (faces.Refused r) = r .index
+
+abbrev pub facesAnswer : FaceList → ℕ
+facesAnswer a = packed (facesValue a) (listRefusal a .number) 0 0
+
+pub record FacesListed (s : List ℤ) (labels cycles labels′ cycles′ : List ℕ) (n : ℕ) : Type 0 where
+  pub says : n ≡ facesAnswer (facesOf s (length labels) (length cycles))
+  pub labelled : labels′ ≡ lists.contents (facesOf s (length labels) (length cycles)) (labelsOf s) labels
+  pub listed : cycles′ ≡ lists.contents (facesOf s (length labels) (length cycles)) (cycleList s) cycles
 
 abbrev pub joinValue : Joined → ℕ
 joinValue (join.Records n) = n

@@ -12,11 +12,13 @@ ghost use Rattle.area.specs.Areas.{areaOf};
 ghost use Rattle.sides.specs.declared.Op.the-variants.{Union, Intersection, Difference};
 ghost use Rattle.rig.specs.Bits.{packed, ofRefusal};
 ghost use Rattle.rig.specs.Answers.{checkAnswer, pointAnswer, cornerAnswer, headAnswer, areaAnswer, areaLeft};
+ghost use Rattle.rig.specs.Answers.{facesValue, facesAnswer, FacesListed};
 ghost use Rattle.rig.specs.Answers.{joinValue, joinAnswer, Combines, FileRead};
 ghost use Rattle.rig.specs.Gauging.{KindGauges, SampleRead};
 use area::Area;
 use chart::Refusal;
 use chart::Verdict;
+use faces::FaceList;
 use file::Answer;
 use gauge::Card;
 use gauge::Gauged;
@@ -120,6 +122,29 @@ pub extern "C" fn bz_area2(chart: &[i16], out: &mut i64) -> u64
         }
         Area::Refused(r) => pack_refusal(r),
     }
+}
+
+// ---- faces
+
+// How many cycles in bits 0 to 15 and how many faces in bits 16 to 31, or the refusal.
+fn pack_faces(a: FaceList) -> u64
+    requires { ⌜ facesValue a < 2 ^ 32 ⌝ }
+    ensures { λ n. ⌜ n ≡ facesAnswer a ⌝ }
+{
+    match a {
+        FaceList::Listed { cycles, faces } => pack(cycles + 65536 * faces, 0, 0, 0),
+        FaceList::Refused(r) => pack_refusal(r),
+    }
+}
+
+// The cycle number of each record goes to `labels`, two numbers per cycle to `cycles`; both stay as they are where the
+// chart or the arrays are refused.
+#[no_mangle]
+pub extern "C" fn bz_faces(chart: &[i16], labels: &mut [u16], cycles: &mut [u16]) -> u64
+    ensures { λ n. ⌜ FacesListed (now (chart .entry)) (now (labels .entry)) (now (cycles .entry))
+        (now (labels .exit)) (now (cycles .exit)) n ⌝ }
+{
+    pack_faces(faces::faces(chart, labels, cycles))
 }
 
 // ---- joining two charts

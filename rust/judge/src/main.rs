@@ -12,24 +12,26 @@ mod progress;
 mod rules;
 mod tally;
 
-use judges::{charts, files, gauges, heads, joins, nearest, tape};
+use judges::{charts, faces, files, gauges, heads, joins, nearest, tape};
 use std::io::{stdout, BufWriter};
 use std::process::ExitCode;
 use std::thread;
 use tally::{close, Tally};
 
 const USAGE: &str = "usage:
-    judge charts|heads|joins|gauges|files [COUNT [SEED]]   asks the boundary: listed questions, then COUNT drawn ones
-    judge all [COUNT [SEED]]                               all of these
-    judge nearest PROGRAM [COUNT [SEED]]                   asks the program what the boundary does not offer
-    judge tape [COUNT [SEED]]                              writes COUNT questions with their answers to standard output
-    judge bench-joins [COUNT]                              times COUNT joins of large charts, and judges no time
-COUNT is 20000, of joins 50, and SEED is 1 where they are not given.";
+    judge charts|faces|heads|joins|gauges|files [COUNT [SEED]]
+                                           asks the boundary: listed questions, then COUNT drawn ones
+    judge all [COUNT [SEED]]               all of these
+    judge nearest PROGRAM [COUNT [SEED]]   asks the program what the boundary does not offer
+    judge tape [COUNT [SEED]]              writes COUNT questions with their answers to standard output
+    judge bench-faces|bench-joins [COUNT]  times COUNT lists or joins of large charts, and judges no time
+COUNT is 20000, of what is timed 50, and SEED is 1 where they are not given.";
 
 type Judge = fn(usize, u64) -> Tally;
 
-const JUDGES: [(&str, Judge); 5] = [
+const JUDGES: [(&str, Judge); 6] = [
     ("charts", charts::judge),
+    ("faces", faces::judge),
     ("heads", heads::judge),
     ("joins", joins::judge),
     ("gauges", gauges::judge),
@@ -70,8 +72,14 @@ fn run(words: &[&str]) -> Option<bool> {
             let (count, seed) = numbers(rest)?;
             Some(write_tape(count, seed))
         }
-        ["bench-joins"] => Some(bench::joins(50)),
-        ["bench-joins", count] => Some(bench::joins(count.parse().ok().filter(|&count| count > 0)?)),
+        [name @ ("bench-faces" | "bench-joins"), ref rest @ ..] => {
+            let count = match rest {
+                [] => 50,
+                [count] => count.parse().ok().filter(|&count| count > 0)?,
+                _ => return None,
+            };
+            Some(if name == "bench-faces" { bench::faces(count) } else { bench::joins(count) })
+        }
         [name, ref rest @ ..] => {
             let (count, seed) = numbers(rest)?;
             let meant = JUDGES.iter().filter(|(known, _)| name == *known || name == "all");

@@ -2,11 +2,12 @@
 -- nothing.
 use borrow.Author.Needs.{needs}
 use Rattle.grid.specs.Coordinates.{up}
+use Rattle.nearest.proofs.PassLaws.{highest-found}
 use Rattle.nearest.proofs.ByMarkLaws.{below-named, below-nothing}
 use Rattle.nearest.proofs.is_marked_below.Statement.{statement}
 use Rattle.nearest.proofs.is_marked_below.Tie as tie
 
-ruleset all = (needs, below-named, below-nothing)
+ruleset all = (needs, highest-found, below-named, below-nothing)
 
 pub is-marked-below-spec : {M : Type 1} → statement M
 unfolding up

@@ -12,6 +12,8 @@ pub enum Question<'a> {
     Corner { chart: &'a [i16], x: i16, y: i16 },
     Head { a: &'a [i16], b: &'a [i16] },
     Area { chart: &'a [i16] },
+    /// into arrays of so many labels and so many numbers of cycles
+    Faces { chart: &'a [i16], rooms: [usize; 2] },
     /// into an array of so many numbers
     Join { op: Op, a: &'a [i16], b: &'a [i16], room: usize },
     Gauge { card: Card, sample: i16 },
@@ -58,6 +60,9 @@ impl Display for Question<'_> {
             Question::Corner { chart, x, y } => write!(f, "corner ({x}, {y}) of {}", shown(chart)),
             Question::Head { a, b } => write!(f, "smaller head of {} and {}", shown(a), shown(b)),
             Question::Area { chart } => write!(f, "twice the area of {}", shown(chart)),
+            Question::Faces { chart, rooms: [labels, cycles] } => {
+                write!(f, "faces of {} into arrays of {labels} labels and {cycles} numbers", shown(chart))
+            }
             Question::Join { op, a, b, room } => {
                 write!(f, "{op:?} of {} and {} into an array of {room} numbers", shown(a), shown(b))
             }

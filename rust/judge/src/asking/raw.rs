@@ -2,7 +2,7 @@
 
 use super::answer::Answer;
 use super::framed::Framed;
-use super::lent::{numbers, Lent, AREA, READING};
+use super::lent::{lists, numbers, Lent, AREA, READING};
 use super::question::Question;
 use crate::rules::gauges::Card;
 use crate::rules::joins::Op;
@@ -47,6 +47,15 @@ fn head(a: &[i16], b: &[i16]) -> Outcome {
     Outcome { word, lent: Lent::Nothing, is_kept: first.is_as(a) && second.is_as(b) }
 }
 
+fn faces(chart: &[i16], rooms: [usize; 2]) -> Outcome {
+    let [mut labels, mut cycles] = lists(rooms).map(|list| Framed::new(&list));
+    let [to_labels, to_cycles] = [&mut labels, &mut cycles].map(|list| list.array_mut().as_mut_ptr());
+    let ask = |start, length| unsafe { bz_faces(start, length, to_labels, rooms[0], to_cycles, rooms[1]) };
+    let outcome = about(chart, ask);
+    let is_kept = outcome.is_kept && labels.has_margins() && cycles.has_margins();
+    Outcome { lent: Lent::Lists([labels, cycles].map(|list| list.array().to_vec())), is_kept, ..outcome }
+}
+
 fn join(op: Op, a: &[i16], b: &[i16], room: usize) -> Outcome {
     let function = match op {
         Op::Union => bz_union,
@@ -82,6 +91,7 @@ pub fn ask(question: &Question) -> Outcome {
         Question::Corner { chart, x, y } => about(chart, |start, length| unsafe { bz_corner(start, length, x, y) }),
         Question::Head { a, b } => head(a, b),
         Question::Area { chart } => area(chart),
+        Question::Faces { chart, rooms } => faces(chart, rooms),
         Question::Join { op, a, b, room } => join(op, a, b, room),
         Question::Gauge { card, sample } => gauge(card, sample),
         Question::Read { file, room } => read(file, room),

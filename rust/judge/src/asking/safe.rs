@@ -2,9 +2,10 @@
 
 use super::answer::Answer;
 use super::framed::Framed;
-use super::lent::{numbers, Lent};
+use super::lent::{lists, numbers, Lent};
 use super::question::Question;
 use crate::rules::chart::Place;
+use crate::rules::faces::Faces;
 use crate::rules::gauges::{Card, Reading};
 use crate::rules::heads::Head;
 use crate::rules::joins::Op;
@@ -24,8 +25,8 @@ impl Told {
             let told = self.answer.as_ref().map_or("no part of the array".to_string(), |answer| format!("{answer:?}"));
             return Some(format!("the wrapper answers {told}"));
         }
-        // only an array is lent through the wrapper
-        if matches!(self.lent, Lent::Numbers(_)) && self.lent != *after {
+        // only arrays are lent through the wrapper
+        if matches!(self.lent, Lent::Numbers(_) | Lent::Lists(_)) && self.lent != *after {
             return Some(format!("the wrapper leaves {:?} and not {after:?}", self.lent));
         }
         (!self.is_kept).then(|| "the wrapper writes where it must not".to_string())
@@ -80,6 +81,21 @@ fn head(a: &[i16], b: &[i16]) -> Told {
     Told { answer, lent: Lent::Nothing, is_kept: first.is_as(a) && second.is_as(b) }
 }
 
+/// The list that was written, by how many cycles it is said to have.
+fn list(records: usize, count: berzulka::FaceCount, labels: &[u16], cycles: &[u16]) -> Option<Answer> {
+    let pairs = cycles.get(..2 * count.cycles)?.chunks(2).map(|pair| [pair[0], pair[1]]);
+    let labels = labels.get(..records)?.to_vec();
+    Some(Answer::Faces(Faces { labels, cycles: pairs.collect(), faces: count.faces }))
+}
+
+fn faces(chart: &[i16], rooms: [usize; 2]) -> Told {
+    let (framed, [mut labels, mut cycles]) = (Framed::new(chart), lists(rooms).map(|list| Framed::new(&list)));
+    let result = berzulka::faces(framed.array(), labels.array_mut(), cycles.array_mut());
+    let answer = told(result, |count| list(chart.len() / 5, count, labels.array(), cycles.array()));
+    let is_kept = framed.is_as(chart) && labels.has_margins() && cycles.has_margins();
+    Told { answer, lent: Lent::Lists([labels, cycles].map(|list| list.array().to_vec())), is_kept }
+}
+
 /// The wrapper has no cards of other kinds, so these are not asked about.
 fn gauge(card: Card, sample: i16) -> Option<Told> {
     let [first, second] = [card.first, card.second].map(f64::from_bits);
@@ -128,6 +144,7 @@ pub fn ask(question: &Question) -> Option<Told> {
         Question::Corner { chart, x, y } => about(chart, |all| run(all, berzulka::corner(all, x, y))),
         Question::Head { a, b } => head(a, b),
         Question::Area { chart } => about(chart, |all| told(berzulka::area2(all), |v| Some(Answer::Area(v)))),
+        Question::Faces { chart, rooms } => faces(chart, rooms),
         Question::Join { op, a, b, room } => join(op, a, b, room),
         Question::Gauge { card, sample } => return gauge(card, sample),
         Question::Read { file, room } => read(file, room),

@@ -3,6 +3,7 @@
 use super::answer::Answer;
 use super::question::Question;
 use crate::rules::chart::{verdict, Chart};
+use crate::rules::faces::{Boundary, Faces};
 use crate::rules::files;
 use crate::rules::gauges::{reading, Card};
 use crate::rules::heads::smaller_head;
@@ -52,6 +53,35 @@ impl<'a> Subject<'a> {
         let (x, y) = (p.0 as i16, p.1 as i16);
         let run = self.chart.as_ref().map_or(0..0, |_| run_at(self.numbers, p));
         (Question::Corner { chart: self.numbers, x, y }, Answer::Run(run))
+    }
+}
+
+/// An array that is asked about for its faces and holes, and the list where it is accepted.
+pub struct Listing<'a> {
+    pub subject: Subject<'a>,
+    pub list: Option<Faces>,
+}
+
+impl<'a> Listing<'a> {
+    pub fn new(numbers: &'a [i16]) -> Self {
+        let subject = Subject::new(numbers);
+        let list = subject.chart.as_ref().map(|chart| Boundary::new(chart).list(numbers));
+        Listing { subject, list }
+    }
+
+    /// How many labels and how many numbers of cycles are written; those of the square, say, where it is refused.
+    pub fn lengths(&self) -> [usize; 2] {
+        self.list.as_ref().map_or([8, 2], |list| [list.labels.len(), 2 * list.cycles.len()])
+    }
+
+    pub fn faces(&self, rooms: [usize; 2]) -> Asked<'a> {
+        let (number, index) = self.subject.verdict;
+        let answer = match &self.list {
+            None => Answer::Refused(number, index, 0),
+            Some(list) if list.fits(rooms) => Answer::Faces(list.clone()),
+            Some(_) => Answer::Refused(10, 0, 0),
+        };
+        (Question::Faces { chart: self.subject.numbers, rooms }, answer)
     }
 }
 

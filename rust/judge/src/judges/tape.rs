@@ -3,13 +3,14 @@
 
 use crate::asking::lent::Lent;
 use crate::asking::question::Question;
-use crate::asking::wanted::{gauge, head, read, Asked, Pair, Subject};
+use crate::asking::wanted::{gauge, head, read, Asked, Listing, Pair, Subject};
 use crate::dice::Dice;
 use crate::making::damages::damages;
 use crate::making::drafts::draft;
+use crate::making::drawn_faces::{self, rooms_for};
 use crate::making::drawn_pairs::{self, room_for};
 use crate::making::points::point_for;
-use crate::making::{cards, examples, files, floats, long_pairs, pairs, small};
+use crate::making::{cards, examples, files, floats, known_faces, long_pairs, pairs, small};
 use crate::progress::told;
 use crate::rules::gauges::Card;
 use crate::rules::joins::OPS;
@@ -49,6 +50,11 @@ fn put(question: &Question) -> (Front, Vec<u8>, Vec<u8>) {
         Question::Corner { chart, x, y } => (Front { x, y, ..front(b'r') }, bytes_of(chart), vec![]),
         Question::Head { a, b } => (front(b'h'), bytes_of(a), bytes_of(b)),
         Question::Area { chart } => (front(b'a'), bytes_of(chart), vec![]),
+        // of the two arrays that are lent the first one's length, in labels
+        Question::Faces { chart, rooms } => {
+            let x = i16::try_from(rooms[0]).expect("an array that a tape may have");
+            (Front { x, ..front(b'w') }, bytes_of(chart), vec![])
+        }
         Question::Join { op, a, b, .. } => (front(b"uid"[op as usize]), bytes_of(a), bytes_of(b)),
         Question::Gauge { card: Card { kind, first, second }, sample } => {
             (Front { kind, x: sample, first, second, ..front(b'g') }, vec![], vec![])
@@ -79,6 +85,25 @@ fn about(numbers: &[i16], p: Point) -> [Entry; 5] {
     asked.map(|asked| entry(&asked))
 }
 
+/// The list of faces of an array, into arrays of lengths that are given for a list of so many labels and numbers.
+fn faces(numbers: &[i16], rooms: impl FnOnce([usize; 2]) -> [usize; 2]) -> Entry {
+    let listing = Listing::new(numbers);
+    entry(&listing.faces(rooms(listing.lengths())))
+}
+
+/// Known lists into arrays that are longer, into just long ones, and with either array too short; damaged charts.
+fn listed_faces(damaged: &[&[i16]]) -> Vec<Entry> {
+    let all = known_faces::all();
+    let longer = all.iter().map(|known| faces(&known.numbers, |[labels, cycles]| [labels + 3, cycles + 2]));
+    let just = all.iter().map(|known| faces(&known.numbers, |lengths| lengths));
+    let some = &all[all.len() - 4..];
+    let no_labels = some.iter().map(|known| faces(&known.numbers, |[labels, cycles]| [labels - 1, cycles]));
+    let no_cycles = some.iter().map(|known| faces(&known.numbers, |[labels, cycles]| [labels, cycles - 1]));
+    let refused = damaged.iter().map(|numbers| faces(numbers, |_| [9, 3]));
+    let without = damaged.iter().map(|numbers| faces(numbers, |_| [0, 0]));
+    longer.chain(just).chain(no_labels).chain(no_cycles).chain(refused).chain(without).collect()
+}
+
 /// What is made of two arrays, each into an array of a length that is given for a result of so many numbers.
 fn joined(a: &[i16], b: &[i16], mut room: impl FnMut(usize) -> usize) -> Vec<Entry> {
     let pair = Pair::new(a, b);
@@ -99,7 +124,7 @@ fn listed_joins(damaged: &[&[i16]]) -> Vec<Entry> {
     known.chain(short).chain(long).chain(refused).collect()
 }
 
-/// The papers' examples, a chart refused by each number, listed pairs, and cards of no kind.
+/// The papers' examples, a chart refused by each number, known lists, listed pairs, and cards of no kind.
 fn listed() -> Vec<Entry> {
     let (_, square) = small::charts().swap_remove(0);
     let all = damages(&square);
@@ -113,10 +138,11 @@ fn listed() -> Vec<Entry> {
     let gauges = cards::examples().into_iter().map(|(card, sample, _)| entry(&gauge(card, sample)));
     let no_cards = floats::no_cards().step_by(100).map(|card| entry(&gauge(card, 1)));
     let files = files::examples().into_iter().map(|file| entry(&read(&file.bytes, file.room)));
-    by_numbers.chain(charts).chain(gauges).chain(no_cards).chain(files).chain(listed_joins(&damaged)).collect()
+    let others = gauges.chain(no_cards).chain(files).chain(listed_faces(&damaged)).chain(listed_joins(&damaged));
+    by_numbers.chain(charts).chain(others).collect()
 }
 
-/// A chart with a point, two arrays, two charts to be joined, a sample by a card, a file.
+/// A chart with a point, two arrays, a sample by a card, a file, a chart's faces, two charts to be joined.
 fn drawn(dice: &mut Dice) -> Vec<Entry> {
     let draft = draft(dice);
     let p = point_for(dice, &draft);
@@ -125,8 +151,10 @@ fn drawn(dice: &mut Dice) -> Vec<Entry> {
     let (samples, file) = (dice.samples(card), dice.file());
     let others = [head(&a, &b), gauge(card, *dice.pick(&samples)), read(&file.bytes, file.room)];
     let entries = about(&draft.numbers, p).into_iter().chain(others.iter().map(entry));
+    let listed = drawn_faces::drawn(dice).numbers;
+    let entries = entries.chain([faces(&listed, |lengths| rooms_for(dice, lengths))]).collect::<Vec<Entry>>();
     let pair = drawn_pairs::drawn(dice);
-    entries.chain(joined(&pair.a, &pair.b, |length| room_for(dice, length))).collect()
+    entries.into_iter().chain(joined(&pair.a, &pair.b, |length| room_for(dice, length))).collect()
 }
 
 /// Writes so many questions.

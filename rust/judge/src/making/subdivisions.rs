@@ -40,7 +40,7 @@ impl Made {
 // ---- subdivisions
 
 /// Some sides cut in two at a point of the grid, in both pieces that share one.
-fn jointed(dice: &mut Dice, pieces: Vec<Piece>) -> Vec<Piece> {
+pub fn jointed(dice: &mut Dice, pieces: Vec<Piece>) -> Vec<Piece> {
     let odds = 1 + dice.roll(5);
     let mut joints: BTreeMap<Segment, Option<Point>> = BTreeMap::new();
     let mut joint = |way: Way| {

@@ -29,12 +29,12 @@ impl Chart {
         Chart { records, marks, segments }
     }
 
-    fn segment(&self, i: usize) -> Segment {
+    pub fn segment(&self, i: usize) -> Segment {
         Segment::of(self.records[i])
     }
 
     /// The first record of a segment.
-    fn index_of(&self, s: Segment) -> usize {
+    pub fn index_of(&self, s: Segment) -> usize {
         (0..self.records.len()).find(|&i| self.segment(i) == s).expect("a segment of the chart")
     }
 

@@ -3,6 +3,7 @@
 
 pub mod chart;
 pub mod exact;
+pub mod faces;
 pub mod files;
 pub mod gauges;
 pub mod heads;

@@ -1,0 +1,13 @@
+pub mod WayLaws
+pub mod NameLaws
+pub mod HalfLaws
+pub mod LeastLaws
+pub mod WriteLaws
+pub mod CutLaws
+pub mod OnwardLaws
+pub mod Cutting
+pub mod CuttingLaws
+pub mod CircleLaws
+pub mod FromLaws
+pub mod WalkingLaws
+pub mod AnswerLaws

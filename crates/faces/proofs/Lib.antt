@@ -1,0 +1,13 @@
+pub mod KnownLaws
+pub mod NumberLaws
+pub mod WalkLaws
+pub mod FillLaws
+pub mod LabelLaws
+pub mod EntriesLaws
+pub mod EntryLaws
+pub mod ListLaws
+pub mod CircledLaws
+pub mod OutcomeLaws
+pub mod CycleListLaws
+pub mod OrderLaws
+pub mod AnyCutLaws

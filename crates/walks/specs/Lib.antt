@@ -1,0 +1,5 @@
+pub mod Ways
+pub mod Turning
+pub mod Walks
+pub mod Cycles
+pub mod Faces
