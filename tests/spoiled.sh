@@ -49,10 +49,18 @@ ask_replay() {
 
 # fails_by_count THING COMMAND: with this spoiled the command ends badly, and says itself how much failed.
 fails_by_count() {
-    SPOIL=$1 "$2" > "$scratch/told" 2>&1
+    local told=$scratch/told.$1
+    SPOIL=$1 "$2" > "$told" 2>&1
     local status=$?
-    cat "$scratch/told"
-    [ "$status" -ne 0 ] && tail -n 1 "$scratch/told" | grep -qxE '[0-9]+ passed, [1-9][0-9]* failed'
+    cat "$told"
+    [ "$status" -ne 0 ] && tail -n 1 "$told" | grep -qxE '[0-9]+ passed, [1-9][0-9]* failed'
+}
+
+# Both tests of one thing, said to a file of its own: several are tried at once.
+try() {
+    local log=$scratch/log.$1
+    expect "$1 spoiled, the judge" fails_by_count "$1" ask_judge
+    expect "$1 spoiled, the replay" fails_by_count "$1" ask_replay
 }
 
 unset SPOIL
@@ -61,8 +69,17 @@ build_spoiled && build_both && "$spoiled/rust/release/judge" tape 1000 1 > "$scr
 expect 'nothing spoiled, the judge' ask_judge
 expect 'nothing spoiled, the replay' ask_replay
 for thing in $things; do
-    expect "$thing spoiled, the judge" fails_by_count "$thing" ask_judge
-    expect "$thing spoiled, the replay" fails_by_count "$thing" ask_replay
+    [ "$(jobs -rp | wc -l)" -lt "$(nproc)" ] || wait -n
+    try "$thing" > "$scratch/said.$thing" &
+done
+wait
+
+# a thing of which nothing was said counts as two that failed
+for thing in $things; do
+    cat "$scratch/said.$thing"
+    ok=$(grep -c '^ok: ' "$scratch/said.$thing")
+    passed=$((passed + ok))
+    failed=$((failed + 2 - ok))
 done
 
 closes

@@ -1,7 +1,6 @@
 -- What is among the records of a part, and the two halves of a segment of it.
 --     part-whole      a ranked chart is a part of itself
 --     has-mem         a part has a record exactly if that is one of its records
---     has-other       it has both halves of a segment or none
 --     has-segment     it has the segment of a record of the chart exactly if it has the record
 --     flip            left of the other half is what is right of the first: the same, but for the segment itself
 --     one-way         of the two halves of a segment one departs
@@ -81,13 +80,6 @@ module _ {rs : List Record} {rank : Record → ℕ} (ranked : Ranked rs rank) wh
       (λ h. let w = any-member (isRecord r) C .0 h in subst (λ e. e ∈ C) (isRecord-true r (w .0) (w .2)) (w .1)),
       (λ n. any-member (isRecord r) C .1 (r, n, isRecord-refl r)),
     )
-
-    pub has-other : (r : Record) → r ∈ rs → has C (otherHalf r) ≡ has C r
-    has-other r m =
-        let here = has-mem r m in
-        let there = has-mem (otherHalf r) (ranked .sound .halves r m) in
-        same-test _ _ (λ h. here .1 (part .halves (otherHalf r) (there .0 h)))
-        (λ h. there .1 (part .halves r (here .0 h)))
 
     -- the left half of the segment of r is r or its other half
     pub has-segment : (r : Record) → r ∈ rs → any (isSegment (segment r)) (segments C) ≡ has C r

@@ -27,7 +27,7 @@ use Rattle.area.specs.Areas.{areaOf}
 use Rattle.area.proofs.AreaLaws.{areaOf-refused}
 use Rattle.walks.specs.Cycles.{cycleCount}
 use Rattle.walks.specs.Faces.{faceCount}
-use Rattle.walks.proofs.NumberLaws.{cycles-few}
+use Rattle.walks.proofs.RoomLaws.{cycles-halved}
 use Rattle.faces.specs.declared.FaceList.{FaceList}
 use Rattle.faces.specs.declared.FaceList.the-variants as listed
 use Rattle.faces.specs.declared.FaceList.the-variants.{Listed}
@@ -61,7 +61,7 @@ module _ (s : List ℤ) (labels cycles labels′ cycles′ : List ℕ) {a : Face
       h ∙ ap₂ (λ j i. areaReport (recordCount s) j (i - j) (areaOf s)) (told .bounded) (told .many)
 
   -- the arrays are long enough, so a refusal is the chart's own
-  pub chart-refused : {r : Refusal} → length labels ≡ 512 → length cycles ≡ 1024 → a ≡ listed.Refused r
+  pub chart-refused : {r : Refusal} → length labels ≡ 512 → length cycles ≡ 512 → a ≡ listed.Refused r
       → Refused r ≡ chartReport s
   unfolding chartReport
   chart-refused {r} l c e = go (lists-refusal (subst (Lists s labels cycles labels′ cycles′) e lists))
@@ -72,7 +72,7 @@ module _ (s : List ℤ) (labels cycles labels′ cycles′ : List ℕ) {a : Face
       go (inl h) =
           ap (areaReport (recordCount s) (faceCount s) (cycleCount s - faceCount s)) (sym (areaOf-refused s r h))
       go (inr (region, is, inl h)) = absurd (omega (arith, region .few))
-      go (inr (region, is, inr h)) = absurd (omega (arith, region .few, cycles-few s))
+      go (inr (region, is, inr h)) = absurd (omega (arith, region .few, cycles-halved region))
 
 module _ (bytes : List ℕ) where
   -- the part of the array that is lent on begins at 0

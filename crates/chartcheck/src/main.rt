@@ -58,7 +58,7 @@ fn report_of(chart: &[i16]) -> Report
     ensures { λ r. ⌜ r ≡ chartReport (now (chart .entry)) ⌝ }
 {
     let mut labels = [0u16; 512];
-    let mut list = [0u16; 1024];
+    let mut list = [0u16; 512];
     let a = faces::faces(chart, &mut labels, &mut list);
     match a {
         FaceList::Listed { cycles, faces } => report_with(chart, cycles, faces),

@@ -12,9 +12,9 @@ use Rattle.chart.specs.Regions.{Region}
 use Rattle.walks.specs.Ways.{walked}
 use Rattle.walks.specs.Walks.{walk, cyclesOf}
 use Rattle.walks.specs.Cycles.{startOf, cycleOf}
+use Rattle.walks.specs.Circuits.{Together}
 use Rattle.walks.proofs.NextLaws.{walked-less, walked-departs}
 use Rattle.walks.proofs.StartLaws.{start-walk, start-less}
-use Rattle.walks.proofs.AnyStartLaws.{Together}
 use Rattle.walks.proofs.StartFreeLaws.{start-free}
 use Rattle.walks.proofs.CutLaws.{cycle-one}
 use Rattle.walks.proofs.CycleLaws.{cycle-of, cycle-has}

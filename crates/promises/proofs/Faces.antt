@@ -4,6 +4,7 @@
 --     faces-refused     so it is of every refusal, and both arrays are as they were
 --     faces-short       of an accepted chart it is 10 exactly when either is too short
 --     faces-ends        so every question ends with the number 0, for none, or a refusal, and both are as they were
+--     faces-room        two arrays of as many numbers as an accepted chart has records are always long enough
 -- Of an answer of m cycles and k faces, where the lent arrays now have a label for each record, and for each cycle its
 -- kind and its face:
 --     faces-listed      those are what document 01's rules say, and places beyond are as they were
@@ -24,6 +25,7 @@ use mathlib.Core.Logic.{_⊎_, inl, inr, _↔_, ⊎-elim}
 use mathlib.Core.Bool.{true, true≢false}
 use mathlib.Core.List.{List}
 use Prim.Native.Nat.{ℕ, _+_, _*_, _<_, _≤_}
+use native.Mathlib.Omega.{arith}
 use lib.Dec.{eqb}
 use lib.IntN.{ℤ, pos}
 use lib.ListN.{length, getD, drop}
@@ -40,6 +42,7 @@ use Rattle.walks.specs.Cycles.{startOf, cycleOf, halves, firstOf, cycleCount, c
 use Rattle.walks.specs.Faces.{area2Of, isOuter, faceCount, faceOf}
 use Rattle.walks.proofs.PlaceLaws.{back-less}
 use Rattle.walks.proofs.NumberLaws.{number-less, number-back}
+use Rattle.walks.proofs.RoomLaws.{cycles-halved}
 use Rattle.walks.proofs.SideLaws.{area-some, outer-mark}
 use Rattle.walks.proofs.OneOuterLaws as walk
 use Rattle.faces.specs.declared.FaceList.{FaceList}
@@ -86,6 +89,23 @@ module _ (s : List ℤ) (labels cycles labels′ cycles′ : List ℕ) where
         go : (b : FaceList) → a ≡ b → (listRefusal b ≡ noRefusal) ⊎ (Why (listRefusal b) × untouched)
         go (Listed m k) e = inl refl
         go (Refused r) e = inr (faces-refused r e)
+
+    pub faces-room : verdict s ≡ verdict.Accepted → recordCount s ≤ length labels → recordCount s ≤ length cycles
+        → (m : ℕ) × (k : ℕ) × (a ≡ Listed m k)
+    faces-room v l c = go a refl
+      where
+        halved : 2 * cycleCount s ≤ recordCount s
+        halved = cycles-halved (accepted-is s .0 v)
+
+        long : short → ⊥
+        long (inl h) = omega (arith, h, l)
+        long (inr h) = omega (arith, h, c, halved)
+
+        go : (b : FaceList) → a ≡ b → (m : ℕ) × (k : ℕ) × (a ≡ Listed m k)
+        go (Listed m k) e = (m, k, e)
+        go (Refused r) e =
+            absurd (⊎-elim (λ w. true≢false (sym (ap isAccepted v) ∙ ap isAccepted w)) (λ w. long (w .2))
+            (faces-refused r e .0))
 
   -- ---- of an answer that is no refusal
 

@@ -29,13 +29,12 @@ use Rattle.walks.specs.Ways.{wayBack, next, walked}
 use Rattle.walks.specs.Turning.{sooner}
 use Rattle.walks.specs.Walks.{walk, cyclesOf}
 use Rattle.walks.specs.Cycles.{startOf, cycleOf, halves}
+use Rattle.walks.specs.Circuits.{Together, Closed}
 use Rattle.walks.proofs.PlaceLaws.{back-less, back-is}
 use Rattle.walks.proofs.NextLaws.{next-less, next-from, next-leaves, next-one, next-onto}
 use Rattle.walks.proofs.ClockwiseLaws.{clockwise-first}
 use Rattle.walks.proofs.StartLaws.{start-less}
-use Rattle.walks.proofs.AnyStartLaws.{Together}
 use Rattle.walks.proofs.StartFreeLaws.{start-free}
-use Rattle.walks.proofs.CutLaws.{Closed}
 use Rattle.walks.proofs.CutLaws as cut
 use Rattle.walks.proofs.CycleLaws.{cycle-of}
 use Rattle.walks.proofs.CyclePartLaws.{cycle-part}

@@ -1,5 +1,4 @@
 -- The start of a walk makes no difference to how it is cut.
---     Together cs a b     one of the cycles cs has both records a and b
 --     any-start           of a walk that comes round after n steps, the same records are together whichever step it is
 --                         taken to start with
 -- Assumes nothing.
@@ -12,18 +11,12 @@ use lib.IntN.{ℤ}
 use Rattle.counts.specs.Count.{_∈_, listed}
 use Rattle.counts.proofs.MapLaws.{map-mem, mem-map}
 use Rattle.record.specs.Records.{recordAt}
-use Rattle.walks.specs.Walks.{cutAt, walkAll, uncut}
-use Rattle.walks.proofs.CutLists.{cyclesIn}
+use Rattle.walks.specs.Walks.{cutAt, walkAll, uncut, cyclesIn}
+use Rattle.walks.specs.Circuits.{Together}
 use Rattle.walks.proofs.Taken.{Nested, TakenAt, Stands}
 use Rattle.walks.proofs.StandsLaws.{stands-end}
 use Rattle.walks.proofs.PartedLaws.{On, Unparted, unparted-any}
 use Rattle.walks.proofs.UnpartedLaws.{taken-whole, whole-taken}
-
-pub record Together (cs : List (List ℕ)) (a b : ℕ) : Type 0 where
-  pub it : List ℕ
-  pub listed : it ∈ cs
-  pub one : a ∈ it
-  pub other : b ∈ it
 
 module _ (s : List ℤ) (w : ℕ → ℕ) (n : ℕ) (around : (i : ℕ) → w (i + n) ≡ w i)
     (fresh : (i j : ℕ) → i < j → j < i + n → w i ≡ w j → ⊥) (nested : Nested s w n) where

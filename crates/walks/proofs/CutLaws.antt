@@ -1,8 +1,4 @@
 -- The cycles that a walk is cut into.
---     cyclesIn s i js    what the records js are cut into that are walked from the corner of record i; of its own walk
---                        that is `cyclesOf s i`
---     Closed s c         c is a cycle by its places: it has a record, each but the last ends where the next departs,
---                        the last where the first does, and no two depart from one point
 --     cycle-loop, cycle-closed      each of a walk's cycles is one, as a chain and by its places
 --     shared-out         the cycles of a walk share it out, for any number v of a record
 --     cycle-walk, walk-cycle        a record of such a cycle is walked, and a record that is walked is in such a cycle
@@ -22,22 +18,14 @@ use Rattle.plane.specs.Points.{same}
 use Rattle.plane.proofs.PointLaws.{same-refl}
 use Rattle.record.specs.Records.{recordAt, recordCount}
 use Rattle.chart.specs.Regions.{Region}
-use Rattle.walks.specs.Walks.{walk, from, cutAt, walkAll, uncut, cyclesOf}
+use Rattle.walks.specs.Walks.{walk, from, walkAll, uncut, cyclesOf, cyclesIn}
+use Rattle.walks.specs.Circuits.{Closed}
 use Rattle.walks.proofs.NextLaws.{next-from}
 use Rattle.walks.proofs.StepLaws.{goes, walk-listed, goes-less, steps, round}
 use Rattle.walks.proofs.ChainLaws.{Chain, Loop, chain-first, chain-step, chain-last}
 use Rattle.walks.proofs.RoundLaws.{walk-once}
 use Rattle.counts.proofs.ShareLaws.{sum-some, sum-one, count-two, mem-counted, counted-mem}
 use Rattle.walks.proofs.MachineLaws.{Holding, held-cut, held-all, all-back, shared-cut, shared-all}
-
-abbrev pub cyclesIn : List ℤ → ℕ → List ℕ → List (List ℕ)
-cyclesIn s i js = cutAt s (recordAt s i .dom) (walkAll s uncut js) .cycles
-
-pub record Closed (s : List ℤ) (c : List ℕ) : Type 0 where
-  pub some : 0 < length c
-  pub chain : (k : ℕ) → suc k < length c → recordAt s (getD c k 0) .other ≡ recordAt s (getD c (suc k) 0) .dom
-  pub ends : recordAt s (getD c (length c - 1) 0) .other ≡ recordAt s (getD c 0 0) .dom
-  pub simple : (j k : ℕ) → j < k → k < length c → recordAt s (getD c j 0) .dom ≡ recordAt s (getD c k 0) .dom → ⊥
 
 loop-closed : (s : List ℤ) (c : List ℕ) → Loop s c → Closed s c
 loop-closed s c h = record {

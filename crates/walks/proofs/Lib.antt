@@ -10,7 +10,6 @@ pub mod NextLaws
 pub mod StepLaws
 pub mod RoundLaws
 pub mod StartLaws
-pub mod CutLists
 pub mod SplitLaws
 pub mod Taken
 pub mod FreeLaws
@@ -26,6 +25,7 @@ pub mod CutLaws
 pub mod CycleLaws
 pub mod FirstRecordLaws
 pub mod NumberLaws
+pub mod RoomLaws
 pub mod CyclePartLaws
 pub mod SideLaws
 pub mod OneOuterLaws

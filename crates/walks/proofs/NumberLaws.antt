@@ -1,19 +1,16 @@
 -- The numbers of cycles.
---     cycles-few      there are no more cycles than records
 --     number-less     a cycle's number is less than the number of cycles
 --     number-back     the two halves of a segment have one cycle number
 --     number-same     records of one number have one cycle
 -- Assumes nothing.
 use mathlib.Core.Path.{_≡_, ap}
 use mathlib.Core.List.{List}
-use Prim.Native.Nat.{ℕ, _<_, _≤_}
+use Prim.Native.Nat.{ℕ, _<_}
 use native.Mathlib.Omega.{arith}
 use lib.IntN.{ℤ}
 use borrow.Author.Tests.{eq-eqb}
 use Rattle.counts.specs.Count.{count, places}
 use Rattle.counts.proofs.TestLaws.{Side, less, equal, more, side}
-use Rattle.counts.proofs.CountLaws.{count-most}
-use Rattle.counts.proofs.ListedLaws.{listed-length}
 use Rattle.counts.proofs.ShareLaws.{count-rises}
 use Rattle.record.specs.Records.{recordCount}
 use Rattle.chart.specs.Regions.{Region}
@@ -22,11 +19,6 @@ use Rattle.walks.specs.Cycles.{cycleOf, firstOf, isFirst, cycleCount, cy
 use Rattle.walks.proofs.PlaceLaws.{back-less}
 use Rattle.walks.proofs.CycleLaws.{cycle-back}
 use Rattle.walks.proofs.FirstRecordLaws.{first-less, first-first, first-same, same-cycle}
-
-pub cycles-few : (s : List ℤ) → cycleCount s ≤ recordCount s
-cycles-few s =
-    let all = places (recordCount s) in
-    omega (arith, count-most (isFirst s) all, listed-length (λ i. i) 0 (recordCount s))
 
 module _ {s : List ℤ} (region : Region s) where
   -- before a later place there is one first record more

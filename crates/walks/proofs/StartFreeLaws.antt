@@ -15,15 +15,15 @@ use Rattle.record.specs.Records.{recordAt, recordCount, records}
 use Rattle.chart.specs.Regions.{Region}
 use Rattle.chart.proofs.OnceLaws.{region-place}
 use Rattle.around.specs.Departing.{departs}
-use Rattle.walks.specs.Walks.{walk, cyclesOf}
+use Rattle.walks.specs.Walks.{walk, cyclesOf, cyclesIn}
 use Rattle.around.proofs.Parts.{Next}
+use Rattle.walks.specs.Circuits.{Together}
 use Rattle.walks.proofs.PlaceLaws.{rankIn, ranked-region, member-at}
 use Rattle.walks.proofs.NextLaws.{next-is, next-leaves}
 use Rattle.walks.proofs.StepLaws.{goes, goes-at, goes-on, goes-less, fresh, walk-listed, steps, round}
 use Rattle.walks.proofs.RoundLaws.{walk-step}
 use Rattle.around.proofs.VisitLaws.{nested}
-use Rattle.walks.proofs.CutLists.{cyclesIn}
-use Rattle.walks.proofs.AnyStartLaws.{Together, any-start}
+use Rattle.walks.proofs.AnyStartLaws.{any-start}
 
 listed-shift : (f g : ℕ → ℕ) (a b n : ℕ) → ((k : ℕ) → f (a + k) ≡ g (b + k)) → listed f a n ≡ listed g b n
 unfolding listed

@@ -7,7 +7,9 @@
 --     cutAt s p c       the walk comes to p: where it has departed from p, what it has walked since is a cycle
 --     walkOn s c j      it comes to where record j departs, is cut there, and goes on by j
 --     walkAll s c js    the same for each of js
---     cyclesOf s i      the cycles of the walk from record i, which ends where it began
+--     uncut             nothing walked yet
+--     cyclesIn s i js   what js, which start with record i and end where it departs, are cut into
+--     cyclesOf s i      the cycles of the walk from record i
 -- Assumes nothing.
 use mathlib.Core.Bool.{Bool, cond}
 use mathlib.Core.List.{List, [], _∷_, _++_}
@@ -52,5 +54,8 @@ walkAll s c (j ∷ js) = walkAll s (walkOn s c j) js
 abbrev pub uncut : Cut
 uncut = record { rest = []; cycles = [] }
 
+abbrev pub cyclesIn : List ℤ → ℕ → List ℕ → List (List ℕ)
+cyclesIn s i js = cutAt s (recordAt s i .dom) (walkAll s uncut js) .cycles
+
 unfoldable pub cyclesOf : List ℤ → ℕ → List (List ℕ)
-cyclesOf s i = cutAt s (recordAt s i .dom) (walkAll s uncut (walk s i)) .cycles
+cyclesOf s i = cyclesIn s i (walk s i)
