@@ -8,11 +8,13 @@ repo=$copy/repo
 passed=0
 failed=0
 
-# The copy: the lowest crate, listed.
+# The copy: the lowest crate, listed, with its definitions and no laws.
 fresh() {
     rm -rf "$repo"
     mkdir -p "$repo/crates"
     cp -r crates/counts "$repo/crates/"
+    rm "$repo"/crates/counts/proofs/*
+    : > "$repo/crates/counts/proofs/Lib.antt"
     echo 'counts:' > "$repo/crates.txt"
 }
 

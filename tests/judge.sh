@@ -20,6 +20,6 @@ ask() {
     failed=$((failed + ${counts#* }))
 }
 
-ask all "${1:-20000}" "${2:-1}"
-ask nearest target/bin/probe "${1:-20000}" "${2:-1}"
+ask all "${1:-10000}" "${2:-1}"
+ask nearest target/bin/probe "${1:-10000}" "${2:-1}"
 closes

@@ -1,7 +1,6 @@
 // What the library answers on document 01's bench examples and at the limit, one line each. The gate compares the lines
 // with the file stdout. (Every refusal, at every record and two at once, is the judge's to ask: rust/judge.)
 mod gauges;
-mod listing;
 
 use area::Area;
 use chart::Refusal;
@@ -484,9 +483,6 @@ fn about_hole(s: &[i16]) {
     say_place(b"(3,3)", s, 3, 3);
     say_place(b"(0,0)", s, 0, 0);
     say_area(b"twice the area", s);
-    listing::say_list(b"faces and holes", s);
-    listing::say_faces(b"faces with room for 13 records", s, 13, 4);
-    listing::say_faces(b"faces with room for one cycle", s, 14, 3);
     say_nearest(
         b"nearest below (0,3), where three start at one point",
         s,
@@ -549,6 +545,5 @@ fn say_lengths(text: &[u8], s: &[i16], n: usize) {
         say_place(b"(1,1) in it", part, 1, 1);
         say_nearest(b"nearest below (253,9) in it", part, 253, 9);
         say_corner(b"its run at (252,0)", part, 252, 0);
-        listing::say_faces(b"its faces", part, n / 5, n / 5 * 2);
     }
 }

@@ -19,8 +19,8 @@ abbrev μ-loop : tie.MeasureT-loop
 pub cut-walk-spec : {M : Type 1} → statement M
 cut-walk-spec =
     tie.close
-    (tie.spec Inv-loop μ-loop (λ c. search all) (λ c κs. search all) (λ c. search all) (λ c κs. search all)
-    (λ c. search all) (λ c. search all) (λ c. search all) (λ c κs. search all) (λ c. search all)
-    (λ c. search all) (λ c. search all) (λ c. search all) (λ c. search all)
-    (λ c κs. search all) (λ c. search all) (λ c κs. search all) (λ c. search all) (λ c. search all)
+    (tie.spec Inv-loop μ-loop (λ c. search all) (λ c κs. search needs) (λ c. search needs) (λ c κs. search all)
+    (λ c. search needs) (λ c. search needs) (λ c. search needs) (λ c κs. search needs) (λ c. search needs)
+    (λ c. search needs) (λ c. search all) (λ c. search needs) (λ c. search all)
+    (λ c κs. search needs) (λ c. search needs) (λ c κs. search all) (λ c. search needs) (λ c. search needs)
     (λ c. search all))
