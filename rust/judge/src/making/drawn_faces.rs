@@ -18,8 +18,14 @@ pub struct Draft {
 }
 
 impl Draft {
-    fn of(kind: &'static str, painted: &Painted) -> Self {
-        Draft { kind, numbers: painted.chart(), owners: Some(painted.owners()) }
+    /// Where there are too many records the chart is refused, and has no sides to speak of.
+    fn of(kind: &'static str, numbers: Vec<i16>, owners: impl FnOnce() -> Owners) -> Self {
+        let owners = (numbers.len() / 5 <= 512).then(owners);
+        Draft { kind, numbers, owners }
+    }
+
+    fn painted(kind: &'static str, painted: &Painted) -> Self {
+        Draft::of(kind, painted.chart(), || painted.owners())
     }
 }
 
@@ -72,16 +78,14 @@ fn large(dice: &mut Dice) -> Draft {
     loop {
         let painted = painted(dice, 230);
         if (400..=512).contains(&(painted.chart().len() / 5)) {
-            return Draft::of("large", &painted);
+            return Draft::painted("large", &painted);
         }
     }
 }
 
 fn within(dice: &mut Dice) -> Draft {
     let (numbers, owners) = nested(dice);
-    // where there are too many records the chart is refused
-    let owners = (numbers.len() / 5 <= 512).then_some(owners);
-    Draft { kind: "nested", numbers, owners }
+    Draft::of("nested", numbers, || owners)
 }
 
 /// Large ones are rare, since the rules' own counts take long for them.
@@ -92,7 +96,7 @@ pub fn drawn(dice: &mut Dice) -> Draft {
         103..=352 => Draft { kind: "draft", numbers: draft(dice).numbers, owners: None },
         _ => {
             let most = size(dice);
-            Draft::of("painted", &painted(dice, most))
+            Draft::painted("painted", &painted(dice, most))
         }
     }
 }
