@@ -1,6 +1,6 @@
 #!/usr/bin/env bash
 # Every public function of a library has, in the crate promises, a theorem that any two of its outcomes coincide:
-# pub fn NAME has same-NAME. And no public function asks anything of its caller, but for record_at.
+# pub fn NAME has same-NAME. And no public function asks anything of its caller.
 set -u
 cd "$(dirname "$0")/.." || exit 2
 passed=0 failed=0
@@ -14,7 +14,6 @@ for source in crates/*/src/*.rt; do
         law="same-${name//_/-}"
         grep -qE "^pub $law :" crates/promises/proofs/*.antt
         note $? "$source: no theorem $law for the public function $name"
-        [ "$name" = record_at ] && continue
         ! awk -v name="$name" '
             $0 ~ "pub (extern \"C\" )?fn " name "[<(]" { on = 1 }
             on && /requires/ { bad = 1 }

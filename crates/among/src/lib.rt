@@ -1,13 +1,11 @@
 // One record, segment or point among the records of an array: whether it is there, whether one touches it, how many end
 // at it, how many are counted for its mark. The array need be no chart. A segment is counted once, by its left half.
 ghost use mathlib.Core.Path.{_≡_};
-ghost use Prim.Native.Nat.{_+_, _*_, _≤_, _<_};
-ghost use lib.ListN.{length};
 ghost use Rattle.counts.specs.Scan.{Found, Counted};
 ghost use Rattle.plane.specs.Points.{isSegment};
 ghost use Rattle.plane.specs.Touching.{touches};
 ghost use Rattle.plane.specs.Columns.{endsAt, countedFor};
-ghost use Rattle.record.specs.Records.{width, recordAt, recordCount, records};
+ghost use Rattle.record.specs.Records.{recordAt, recordCount, records};
 ghost use Rattle.segment.specs.Segments.{ofSegment, isRecord};
 ghost use Rattle.among.specs.Among.{has, hasSegment, touched, endCount, countedMark};
 use plane::Point;
@@ -19,7 +17,6 @@ use record::record_at;
 // ---- a record
 
 fn first_same(s: &[i16], n: usize, e: Record) -> usize
-    requires { ⌜ width * n ≤ length (now s) ⌝ }
     ensures { λ r. ⌜ Found (isRecord e) (recordAt (now (s .entry))) 0 n r ⌝ }
 {
     let mut i = 0;
@@ -58,7 +55,6 @@ fn is_same_half(t: Segment, e: Record) -> bool
 }
 
 fn first_same_half(s: &[i16], n: usize, t: Segment) -> usize
-    requires { ⌜ width * n ≤ length (now s) ⌝ }
     ensures { λ r. ⌜ Found (ofSegment (isSegment t)) (recordAt (now (s .entry))) 0 n r ⌝ }
 {
     let mut i = 0;
@@ -89,7 +85,6 @@ fn is_touching_half(t: Segment, e: Record) -> bool
 }
 
 fn first_touching(s: &[i16], n: usize, t: Segment) -> usize
-    requires { ⌜ width * n ≤ length (now s) ⌝ }
     ensures { λ r. ⌜ Found (ofSegment (touches t)) (recordAt (now (s .entry))) 0 n r ⌝ }
 {
     let mut i = 0;
@@ -120,7 +115,6 @@ fn is_ending_half(p: Point, e: Record) -> bool
 }
 
 fn count_ends(s: &[i16], n: usize, p: Point) -> usize
-    requires { ⌜ width * n ≤ length (now s) ⌝ }
     ensures { λ m. ⌜ Counted (ofSegment (endsAt p)) (recordAt (now (s .entry))) n m ⌝ }
 {
     let mut i = 0;
@@ -151,7 +145,6 @@ fn is_counted_half(t: Segment, e: Record) -> bool
 }
 
 fn count_for(s: &[i16], n: usize, t: Segment) -> usize
-    requires { ⌜ width * n ≤ length (now s) ⌝ }
     ensures { λ m. ⌜ Counted (ofSegment (countedFor t)) (recordAt (now (s .entry))) n m ⌝ }
 {
     let mut i = 0;

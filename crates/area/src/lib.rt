@@ -1,10 +1,9 @@
 // Twice the area of a chart. Heights are counts, so each left half adds to two unsigned sums, gains and losses, which
 // are subtracted once, at the end.
 ghost use mathlib.Core.Path.{_≡_};
-ghost use Prim.Native.Nat.{_*_, _≤_};
-ghost use lib.ListN.{length};
+ghost use Prim.Native.Nat.{_≤_};
 ghost use Rattle.counts.specs.Scan.{Summed};
-ghost use Rattle.record.specs.Records.{width, recordAt, firstRecords};
+ghost use Rattle.record.specs.Records.{recordAt, firstRecords};
 ghost use Rattle.area.specs.Areas.{twiceArea, areaOf};
 ghost use Rattle.area.specs.Sums.{across, strip, gain, loss, Term, mostTerm, mostRecords};
 use chart::Refusal;
@@ -67,7 +66,7 @@ fn loss_of(r: Record) -> u64
 // ---- the first n records
 
 fn sum_of_gains(s: &[i16], n: usize) -> u64
-    requires { ⌜ (width * n ≤ length (now s)) × (n ≤ mostRecords) ⌝ }
+    requires { ⌜ n ≤ mostRecords ⌝ }
     ensures { λ m. ⌜ Summed gain (recordAt (now (s .entry))) mostTerm n m ⌝ }
 {
     let mut i = 0;
@@ -81,7 +80,7 @@ fn sum_of_gains(s: &[i16], n: usize) -> u64
 }
 
 fn sum_of_losses(s: &[i16], n: usize) -> u64
-    requires { ⌜ (width * n ≤ length (now s)) × (n ≤ mostRecords) ⌝ }
+    requires { ⌜ n ≤ mostRecords ⌝ }
     ensures { λ m. ⌜ Summed loss (recordAt (now (s .entry))) mostTerm n m ⌝ }
 {
     let mut i = 0;
@@ -96,7 +95,7 @@ fn sum_of_losses(s: &[i16], n: usize) -> u64
 
 // Both sums stay below 2 to the 44, so their difference fits.
 fn twice_area(s: &[i16], n: usize) -> i64
-    requires { ⌜ (width * n ≤ length (now s)) × (n ≤ mostRecords) ⌝ }
+    requires { ⌜ n ≤ mostRecords ⌝ }
     ensures { λ z. ⌜ z ≡ twiceArea (firstRecords (now (s .entry)) n) ⌝ }
 {
     let gains = sum_of_gains(s, n);

@@ -49,13 +49,14 @@ module _ {rs : List Record} {rank : Record → ℕ} (ranked : Ranked rs rank) wh
   }
 
   pub one-way : (r : Record) → r ∈ rs → departs (otherHalf r) ≡ not (departs r)
-  one-way r m =
-      ap (λ b. cond (eqb (r .mark) marked) b (not b)) (left-otherHalf r (sound-proper (ranked .sound) r m))
-      ∙ table (eqb (r .mark) marked) (left r)
+  one-way r m = by-mark (eqb (r .mark) marked) refl
     where
-      table : (a b : Bool) → cond a (not b) (not (not b)) ≡ not (cond a b (not b))
-      table true b = refl
-      table false b = refl
+      other : left (otherHalf r) ≡ not (left r)
+      other = left-otherHalf r (sound-proper (ranked .sound) r m)
+
+      by-mark : (a : Bool) → eqb (r .mark) marked ≡ a → departs (otherHalf r) ≡ not (departs r)
+      by-mark true e = rw (e, other) refl
+      by-mark false e = rw (e, other) refl
 
   pub rank-one : (r e : Record) → r ∈ rs → e ∈ rs → rank r ≡ rank e → r ≡ e
   unfolding segment

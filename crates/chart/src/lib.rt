@@ -1,10 +1,9 @@
 // The check of a chart (document 01, "When a chart is turned away"): any array of numbers, to the paper's verdict.
 // The plain engine: each row of the table looks at every record, and compares each with each where the row asks for it.
 ghost use mathlib.Core.Path.{_≡_};
-ghost use Prim.Native.Nat.{_+_, _*_, _≤_, _<_};
-ghost use lib.ListN.{length};
+ghost use Prim.Native.Nat.{_≤_};
 ghost use Rattle.counts.specs.Scan.{Found};
-ghost use Rattle.record.specs.Records.{width, recordAt, recordCount, records};
+ghost use Rattle.record.specs.Records.{recordAt, recordCount, records};
 ghost use Rattle.chart.specs.Rows.{equalEnds, badMark, notAfter, noOtherHalf, touching, oddEnd, wrongMark};
 ghost use Rattle.chart.specs.Verdicts.{limit, refused, judged, verdict};
 use record::Record;
@@ -28,7 +27,6 @@ pub enum Verdict {
 // ---- 3: a record's two ends are equal
 
 fn first_equal_ends(s: &[i16], n: usize) -> usize
-    requires { ⌜ width * n ≤ length (now s) ⌝ }
     ensures { λ r. ⌜ Found equalEnds (recordAt (now (s .entry))) 0 n r ⌝ }
 {
     let mut i = 0;
@@ -51,7 +49,6 @@ fn has_bad_mark(r: Record) -> bool
 }
 
 fn first_bad_mark(s: &[i16], n: usize) -> usize
-    requires { ⌜ width * n ≤ length (now s) ⌝ }
     ensures { λ r. ⌜ Found badMark (recordAt (now (s .entry))) 0 n r ⌝ }
 {
     let mut i = 0;
@@ -68,7 +65,6 @@ fn first_bad_mark(s: &[i16], n: usize) -> usize
 // ---- 5: a record does not come strictly after the one before
 
 fn is_not_after(s: &[i16], i: usize) -> bool
-    requires { ⌜ width * i + width ≤ length (now s) ⌝ }
     ensures { λ b. ⌜ b ≡ notAfter (now (s .entry)) i ⌝ }
 {
     if i == 0 {
@@ -78,7 +74,6 @@ fn is_not_after(s: &[i16], i: usize) -> bool
 }
 
 fn first_not_after(s: &[i16], n: usize) -> usize
-    requires { ⌜ width * n ≤ length (now s) ⌝ }
     ensures { λ r. ⌜ Found (notAfter (now (s .entry))) (λ i. i) 0 n r ⌝ }
 {
     let mut i = 0;
@@ -100,7 +95,6 @@ fn lacks_other_half(s: &[i16], r: Record) -> bool
 }
 
 fn first_lacking(s: &[i16], n: usize) -> usize
-    requires { ⌜ width * n ≤ length (now s) ⌝ }
     ensures { λ r. ⌜ Found (noOtherHalf (records (now (s .entry)))) (recordAt (now (s .entry))) 0 n r ⌝ }
 {
     let mut i = 0;
@@ -123,7 +117,6 @@ fn is_taking_part(s: &[i16], r: Record) -> bool
 }
 
 fn first_taking_part(s: &[i16], n: usize) -> usize
-    requires { ⌜ width * n ≤ length (now s) ⌝ }
     ensures { λ r. ⌜ Found (touching (records (now (s .entry)))) (recordAt (now (s .entry))) 0 n r ⌝ }
 {
     let mut i = 0;
@@ -147,7 +140,6 @@ fn is_odd_end(s: &[i16], r: Record) -> bool
 }
 
 fn first_odd_end(s: &[i16], n: usize) -> usize
-    requires { ⌜ width * n ≤ length (now s) ⌝ }
     ensures { λ r. ⌜ Found (oddEnd (records (now (s .entry)))) (recordAt (now (s .entry))) 0 n r ⌝ }
 {
     let mut i = 0;
@@ -171,7 +163,6 @@ fn has_wrong_mark(s: &[i16], r: Record) -> bool
 }
 
 fn first_wrong_mark(s: &[i16], n: usize) -> usize
-    requires { ⌜ width * n ≤ length (now s) ⌝ }
     ensures { λ r. ⌜ Found (wrongMark (records (now (s .entry)))) (recordAt (now (s .entry))) 0 n r ⌝ }
 {
     let mut i = 0;

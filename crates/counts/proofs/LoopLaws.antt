@@ -41,7 +41,7 @@ module _ {A : Type 0} (p : A → Bool) (f : ℕ → A) {a n : ℕ} where
   seen-all {i} s l =
       let e : i ≡ n = omega (arith, s .high) in
       record {
-        is = sym (firstFrom-end p f n) ∙ ap (λ j. firstFrom p f j n) (sym e) ∙ s .rest;
+        is = sym e ∙ sym (firstFrom-end p f i n l) ∙ s .rest;
         low = omega (arith, s .low);
         high = omega arith;
       }

@@ -3,6 +3,7 @@
 --     read-hit, read-more      looking for the first
 --     read-yes, read-no        counting
 --     reading                  for `search`: what closes the needs of such a loop
+--     found-from               a first place, with its range
 --     found-passes             what stands at a first place passes
 --     found-any                a first place is below n exactly if some member passes
 -- Assumes nothing.
@@ -12,8 +13,8 @@ use Prim.Native.Nat.{ℕ, _+_, _<_}
 use native.Mathlib.Omega.{arith}
 use lib.Dec.{ltb}
 use Rattle.counts.specs.Count.{any, listed}
-use Rattle.counts.specs.Scan.{Found, Counted}
-use Rattle.counts.proofs.ScanLaws.{any-first, firstFrom-passes}
+use Rattle.counts.specs.Scan.{firstFrom, Found, Counted}
+use Rattle.counts.proofs.ScanLaws.{any-first, firstFrom-low, firstFrom-high, firstFrom-passes}
 use Rattle.counts.proofs.LoopLaws.{Seen, seen-none, seen-hit, seen-more, seen-all}
 use Rattle.counts.proofs.LoopLaws.{counted-none, counted-yes, counted-no, counted-all}
 use Rattle.counts.proofs.LoopLaws.{summed-none, summed-more, summed-all}
@@ -34,6 +35,13 @@ module _ {A : Type 0} (p : A → Bool) (f : ℕ → A) where
   pub read-no : {i m k : ℕ} {x : A} {b : Bool} → Counted p f i m → x ≡ f i → b ≡ p x → b ≡ false → k ≡ m
       → Counted p f (i + 1) k
   read-no s r e t h = counted-no p f s (e ∙ ap p r) t h
+
+  pub found-from : {a n r : ℕ} → r ≡ firstFrom p f a n → a < n → Found p f a n r
+  found-from {a} {n} e l = record {
+    is = e;
+    low = omega (arith, firstFrom-low p f a n (omega arith));
+    high = omega (arith, firstFrom-high p f a n (omega arith));
+  }
 
   pub found-passes : {a n r : ℕ} → Found p f a n r → r < n → p (f r) ≡ true
   found-passes {a} {n} h l =

@@ -22,11 +22,11 @@ use Rattle.counts.proofs.HighestLaws.{any-member}
 module _ {A : Type 0} (p : A → Bool) (f : ℕ → A) where
   -- ---- the first from a place on
 
-  pub firstFrom-end : (n : ℕ) → firstFrom p f n n ≡ n
+  pub firstFrom-end : (i n : ℕ) → n ≤ i → firstFrom p f i n ≡ i
   unfolding firstFrom firstIndex listed
-  firstFrom-end n = go (n - n) (omega arith)
+  firstFrom-end i n l = go (n - i) (omega arith)
     where
-      go : (k : ℕ) → k ≡ 0 → n + firstIndex p (listed f n k) ≡ n
+      go : (k : ℕ) → k ≡ 0 → i + firstIndex p (listed f i k) ≡ i
       go k e = rw e (omega arith)
 
   pub firstFrom-hit : (i n : ℕ) → i < n → p (f i) ≡ true → firstFrom p f i n ≡ i

@@ -6,9 +6,8 @@ ghost use lib.ListN.{length, getD, take, drop};
 ghost use mathlib.Core.List.{_++_};
 ghost use Rattle.counts.specs.Count.{listed};
 ghost use Rattle.counts.specs.Scan.{Found};
-ghost use Rattle.record.specs.Records.{recordAt, recordCount};
+ghost use Rattle.record.specs.Records.{recordCount};
 ghost use Rattle.chart.specs.Regions.{Region};
-ghost use Rattle.parts.specs.Parts.{offCorner};
 ghost use Rattle.around.specs.Departing.{departs};
 ghost use Rattle.walks.specs.Ways.{wayBack, firstHere, clockwise, next};
 ghost use Rattle.walks.specs.Walks.{from};
@@ -17,6 +16,8 @@ ghost use Rattle.cycles.specs.Steps.{PlaceOf, Stretch, lesser, firstHalf
 ghost use Rattle.cycles.specs.Steps.{CutTo, CutWalk, CutFrom, Unset, CutWalks};
 use chart::Verdict;
 use chart::check;
+use parts::first_elsewhere;
+use parts::is_elsewhere;
 use plane::Point;
 use record::MARKED;
 use record::Record;
@@ -56,7 +57,6 @@ fn way_back(s: &[i16], i: usize) -> usize
 
 // Whether no record at its corner comes before record j.
 fn is_first_here(s: &[i16], j: usize) -> bool
-    requires { ⌜ j < recordCount (now s) ⌝ }
     ensures { λ b. ⌜ b ≡ firstHere (now (s .entry)) j ⌝ }
 {
     if j == 0 {
@@ -64,30 +64,6 @@ fn is_first_here(s: &[i16], j: usize) -> bool
     }
     let r = record_at(s, j);
     is_elsewhere(s, r.dom, j - 1)
-}
-
-// Whether record j departs from elsewhere.
-fn is_elsewhere(s: &[i16], p: Point, j: usize) -> bool
-    requires { ⌜ j < recordCount (now s) ⌝ }
-    ensures { λ b. ⌜ b ≡ offCorner p (recordAt (now (s .entry)) j) ⌝ }
-{
-    let r = record_at(s, j);
-    !points::is_same(r.dom, p)
-}
-
-// The first of the records from j on, below n, that is not at p; n where there is none.
-fn first_elsewhere(s: &[i16], p: Point, j: usize, n: usize) -> usize
-    requires { ⌜ (j ≤ n) × (n ≤ recordCount (now s)) ⌝ }
-    ensures { λ i. ⌜ Found (offCorner p) (recordAt (now (s .entry))) j n i ⌝ }
-{
-    let mut i = j;
-    while i < n {
-        if is_elsewhere(s, p, i) {
-            return i;
-        }
-        i += 1;
-    }
-    n
 }
 
 // Turning clockwise from record j around its corner, the first record met.
@@ -117,7 +93,6 @@ fn next_of(s: &[i16], i: usize) -> usize
 
 // Whether record j departs from p.
 fn is_from(s: &[i16], p: Point, j: usize) -> bool
-    requires { ⌜ j < recordCount (now s) ⌝ }
     ensures { λ b. ⌜ b ≡ from (now (s .entry)) p j ⌝ }
 {
     let r = record_at(s, j);

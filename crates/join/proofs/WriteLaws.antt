@@ -5,7 +5,7 @@
 --     onward s i        the part of an array from record i on, as the language takes it
 --     writing-none      at the beginning
 -- and from which of the two heads is smaller:
---     whole-first, whole-second, room-first, room-second    what taking the next record asks
+--     room-first, room-second    what taking the next record asks
 --     writing-first, writing-second, fewer-first, fewer-second    one record on
 --     writing-end       where neither has a record left
 --     writing           for `search`: what closes the needs of the loop
@@ -59,12 +59,6 @@ smaller a b i j is e = ap₂ headOf (sym (onward-is a i)) (sym (onward-is b j)) 
 
 module _ {op : Op} {a b lent out : List ℤ} {i j n : ℕ} {h : Head} (w : Writing op a b lent out i j n)
     (is : h ≡ headOf (onward a i) (onward b j)) where
-  pub whole-first : h ≡ First → width * i + width ≤ length a
-  whole-first e = omega (arith, head-first a b i j (smaller a b i j is e) .0)
-
-  pub whole-second : h ≡ Second → width * j + width ≤ length b
-  whole-second e = omega (arith, head-second a b i j (smaller a b i j is e) .0)
-
   pub fewer-first : h ≡ First → left a b (i + 1) j < left a b i j
   fewer-first e = omega (arith, head-first a b i j (smaller a b i j is e) .0)
 
@@ -128,8 +122,6 @@ module _ (op : Op) (a b lent : List ℤ) where
 
 pub ruleset writing = (
   writing-none,
-  whole-first,
-  whole-second,
   fewer-first,
   fewer-second,
   room-first,

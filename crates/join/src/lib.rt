@@ -36,7 +36,6 @@ pub enum Joined {
 // ---- how many
 
 fn count_first(op: Op, a: &[i16], b: &[i16], n: usize) -> usize
-    requires { ⌜ width * n ≤ length (now a) ⌝ }
     ensures { λ m. ⌜ Counted (keptFirst op (now (a .entry)) (now (b .entry))) (recordAt (now (a .entry))) n m ⌝ }
 {
     let mut i = 0;
@@ -52,7 +51,6 @@ fn count_first(op: Op, a: &[i16], b: &[i16], n: usize) -> usize
 }
 
 fn count_second(op: Op, a: &[i16], b: &[i16], n: usize) -> usize
-    requires { ⌜ width * n ≤ length (now b) ⌝ }
     ensures { λ m. ⌜ Counted (keptSecond op (now (a .entry)) (now (b .entry))) (recordAt (now (b .entry))) n m ⌝ }
 {
     let mut i = 0;
@@ -93,7 +91,6 @@ fn put(r: Record, out: &mut [i16], n: usize)
 
 // Record i of the first chart is next: it becomes record n of the array where it is kept. The number of records then.
 fn take_first(op: Op, a: &[i16], b: &[i16], i: usize, out: &mut [i16], n: usize) -> usize
-    requires { ⌜ width * i + width ≤ length (now a) ⌝ }
     requires { ⌜ Room (keptFirst op (now a) (now b)) (recordAt (now a) i) (now out) n ⌝ }
     ensures { λ m. ⌜ TookFirst op (now (a .entry)) (now (b .entry)) i (now (out .entry)) n (now (out .exit)) m ⌝ }
 {
@@ -107,7 +104,6 @@ fn take_first(op: Op, a: &[i16], b: &[i16], i: usize, out: &mut [i16], n: usize)
 
 // The same of record j of the second.
 fn take_second(op: Op, a: &[i16], b: &[i16], j: usize, out: &mut [i16], n: usize) -> usize
-    requires { ⌜ width * j + width ≤ length (now b) ⌝ }
     requires { ⌜ Room (keptSecond op (now a) (now b)) (recordAt (now b) j) (now out) n ⌝ }
     ensures { λ m. ⌜ TookSecond op (now (a .entry)) (now (b .entry)) j (now (out .entry)) n (now (out .exit)) m ⌝ }
 {
@@ -156,7 +152,6 @@ fn is_touched_in(b: &[i16], r: Record) -> bool
 
 // The first of n records of the first chart whose segment touches one of the second.
 fn first_touching(a: &[i16], b: &[i16], n: usize) -> usize
-    requires { ⌜ width * n ≤ length (now a) ⌝ }
     ensures { λ r. ⌜ Found (touchesIn (now (b .entry))) (recordAt (now (a .entry))) 0 n r ⌝ }
 {
     let mut i = 0;

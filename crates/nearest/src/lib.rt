@@ -1,12 +1,10 @@
 // The segment nearest below a point of a chart, and where the point lies by that segment's mark alone. Each judges the
 // chart first and hands a refusal on; callers check nothing.
 ghost use mathlib.Core.Path.{_≡_};
-ghost use Prim.Native.Nat.{_*_, _≤_, _<_};
-ghost use lib.ListN.{length};
 ghost use Rattle.counts.specs.Count.{odd};
 ghost use Rattle.counts.specs.Scan.{Found};
 ghost use Rattle.grid.specs.Coordinates.{pointOf};
-ghost use Rattle.record.specs.Records.{width, recordAt, recordCount, records};
+ghost use Rattle.record.specs.Records.{recordAt, recordCount, records};
 ghost use Rattle.chart.specs.Regions.{Sound};
 ghost use Rattle.region.specs.Boundaries.{counted, below, higherBelow};
 ghost use Rattle.question.specs.Places.{placed};
@@ -40,7 +38,6 @@ fn is_higher_below(p: Point, t: Segment, e: Record) -> bool
 }
 
 fn first_below(s: &[i16], n: usize, p: Point) -> usize
-    requires { ⌜ width * n ≤ length (now s) ⌝ }
     ensures { λ r. ⌜ Found (counted p) (recordAt (now (s .entry))) 0 n r ⌝ }
 {
     let mut i = 0;

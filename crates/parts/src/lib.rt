@@ -1,9 +1,7 @@
 // The parts of a chart array that are handed back: the run of records at a corner, and the smaller head of two arrays.
 ghost use mathlib.Core.Path.{_≡_};
-ghost use Prim.Native.Nat.{_+_, _*_, _≤_};
-ghost use lib.ListN.{length};
-ghost use Rattle.counts.specs.Scan.{Found};
-ghost use Rattle.record.specs.Records.{width, recordAt};
+ghost use Rattle.counts.specs.Scan.{firstFrom, Found};
+ghost use Rattle.record.specs.Records.{recordAt};
 ghost use Rattle.parts.specs.Parts.{atCorner, offCorner, runOf, Run, fromSecond, headOf, SmallerHead};
 use plane::Point;
 use record::WIDTH;
@@ -25,23 +23,22 @@ pub enum Head {
 
 // ---- the run at a corner
 
+// Whether record i is at p.
 fn is_there(s: &[i16], p: Point, i: usize) -> bool
-    requires { ⌜ width * i + width ≤ length (now s) ⌝ }
     ensures { λ b. ⌜ b ≡ atCorner p (recordAt (now (s .entry)) i) ⌝ }
 {
     let r = record_at(s, i);
     points::is_same(r.dom, p)
 }
 
-fn is_elsewhere(s: &[i16], p: Point, i: usize) -> bool
-    requires { ⌜ width * i + width ≤ length (now s) ⌝ }
+// Whether record i is not at p.
+pub fn is_elsewhere(s: &[i16], p: Point, i: usize) -> bool
     ensures { λ b. ⌜ b ≡ offCorner p (recordAt (now (s .entry)) i) ⌝ }
 {
     !is_there(s, p, i)
 }
 
 fn first_there(s: &[i16], p: Point, n: usize) -> usize
-    requires { ⌜ width * n ≤ length (now s) ⌝ }
     ensures { λ r. ⌜ Found (atCorner p) (recordAt (now (s .entry))) 0 n r ⌝ }
 {
     let mut i = 0;
@@ -54,9 +51,9 @@ fn first_there(s: &[i16], p: Point, n: usize) -> usize
     n
 }
 
-fn first_elsewhere(s: &[i16], p: Point, a: usize, n: usize) -> usize
-    requires { ⌜ (width * n ≤ length (now s)) × (a ≤ n) ⌝ }
-    ensures { λ r. ⌜ Found (offCorner p) (recordAt (now (s .entry))) a n r ⌝ }
+// The first of the records from a on, below n, that is not at p; where there is none n, or a if that lies past n.
+pub fn first_elsewhere(s: &[i16], p: Point, a: usize, n: usize) -> usize
+    ensures { λ r. ⌜ r ≡ firstFrom (offCorner p) (recordAt (now (s .entry))) a n ⌝ }
 {
     let mut i = a;
     while i < n {
@@ -65,7 +62,7 @@ fn first_elsewhere(s: &[i16], p: Point, a: usize, n: usize) -> usize
         }
         i += 1;
     }
-    n
+    i
 }
 
 // Where the run of records whose dominating end is p lies. Where the array is ordered these are all of them; of any

@@ -9,7 +9,8 @@
 --     read-answer       it has how many records were read, or the file's refusal and its place
 --     gauge-answer      it has the sample's refusal, and nothing else
 --     gauge-spring, gauge-bridge, gauge-other    what is read is what the card of that kind gives; 21 for any other
---     same-bz-check, ..  any two outcomes of one call coincide, and so does what is lent back
+--     same-bz-check, ..  nothing is asked, any two outcomes of one call coincide, and so does what is lent back
+-- That each ends with an answer or a numbered refusal, and what was lent is then as it was: BoundaryQuestions.antt.
 -- Assumes nothing.
 use mathlib.Core.Path.{_≡_, sym, ap₂, _∙_}
 use mathlib.Core.List.{List}
@@ -127,44 +128,50 @@ module _ (x y : Float) (n : ℤ) (r : ℕ) (p : Float) (m : ℤ) where
 
 -- ---- one outcome
 
-pub same-bz-check : Settled 1 bz-check-kinds.ps bz-check-kinds.r ℕ bz-check.Post
-same-bz-check κs a v w s t h k = h ∙ sym k
+pub same-bz-check : Settled 1 bz-check-kinds.ps bz-check-kinds.r bz-check.Pre bz-check.Post
+same-bz-check = ((λ κs a. tt), (λ κs a v w s t h k. h ∙ sym k))
 
-pub same-bz-point : Settled 1 bz-point-kinds.ps bz-point-kinds.r ℕ bz-point.Post
-same-bz-point κs a v w s t h k = h ∙ sym k
+pub same-bz-point : Settled 1 bz-point-kinds.ps bz-point-kinds.r bz-point.Pre bz-point.Post
+same-bz-point = ((λ κs a. tt), (λ κs a v w s t h k. h ∙ sym k))
 
-pub same-bz-corner : Settled 1 bz-corner-kinds.ps bz-corner-kinds.r ℕ bz-corner.Post
-same-bz-corner κs a v w s t h k = h ∙ sym k
+pub same-bz-corner : Settled 1 bz-corner-kinds.ps bz-corner-kinds.r bz-corner.Pre bz-corner.Post
+same-bz-corner = ((λ κs a. tt), (λ κs a v w s t h k. h ∙ sym k))
 
-pub same-bz-head : Settled 2 bz-head-kinds.ps bz-head-kinds.r ℕ bz-head.Post
-same-bz-head κs a v w s t h k = h ∙ sym k
+pub same-bz-head : Settled 2 bz-head-kinds.ps bz-head-kinds.r bz-head.Pre bz-head.Post
+same-bz-head = ((λ κs a. tt), (λ κs a v w s t h k. h ∙ sym k))
 
-pub same-bz-area2 : SettledLent 2 bz-area2-kinds.ps bz-area2-kinds.r ℕ ℤ (λ κs s. now (s .1 .0)) bz-area2.Post
-same-bz-area2 κs a v w s t h k = (h .0 ∙ sym (k .0), h .1 ∙ sym (k .1))
+pub same-bz-area2 : SettledLent 2 bz-area2-kinds.ps bz-area2-kinds.r ℤ (λ κs s. now (s .1 .0))
+    bz-area2.Pre bz-area2.Post
+same-bz-area2 = ((λ κs a. tt), (λ κs a v w s t h k. (h .0 ∙ sym (k .0), h .1 ∙ sym (k .1))))
 
 -- the labels and the cycles
-pub same-bz-faces : SettledLent 3 bz-faces-kinds.ps bz-faces-kinds.r ℕ (List ℕ × List ℕ)
-    (λ κs s. (now (s .1 .0), now (s .1 .1 .0))) bz-faces.Post
-same-bz-faces κs a v w s t h k = (
-  h .says ∙ sym (k .says),
-  ap₂ (λ l c. (l, c)) (h .labelled ∙ sym (k .labelled)) (h .listed ∙ sym (k .listed)),
+pub same-bz-faces : SettledLent 3 bz-faces-kinds.ps bz-faces-kinds.r (List ℕ × List ℕ)
+    (λ κs s. (now (s .1 .0), now (s .1 .1 .0))) bz-faces.Pre bz-faces.Post
+same-bz-faces = (
+  (λ κs a. tt),
+  λ κs a v w s t h k. (
+    h .says ∙ sym (k .says),
+    ap₂ (λ l c. (l, c)) (h .labelled ∙ sym (k .labelled)) (h .listed ∙ sym (k .listed)),
+  ),
 )
 
-pub same-bz-union : SettledLent 3 bz-union-kinds.ps bz-union-kinds.r ℕ (List ℤ) (λ κs s. now (s .1 .1 .0)) bz-union.Post
-same-bz-union κs a v w s t h k = (h .says ∙ sym (k .says), h .leaves ∙ sym (k .leaves))
+pub same-bz-union : SettledLent 3 bz-union-kinds.ps bz-union-kinds.r (List ℤ) (λ κs s. now (s .1 .1 .0))
+    bz-union.Pre bz-union.Post
+same-bz-union = ((λ κs a. tt), (λ κs a v w s t h k. (h .says ∙ sym (k .says), h .leaves ∙ sym (k .leaves))))
 
-pub same-bz-intersection : SettledLent 3 bz-intersection-kinds.ps bz-intersection-kinds.r ℕ (List ℤ)
-    (λ κs s. now (s .1 .1 .0)) bz-intersection.Post
-same-bz-intersection κs a v w s t h k = (h .says ∙ sym (k .says), h .leaves ∙ sym (k .leaves))
+pub same-bz-intersection : SettledLent 3 bz-intersection-kinds.ps bz-intersection-kinds.r (List ℤ)
+    (λ κs s. now (s .1 .1 .0)) bz-intersection.Pre bz-intersection.Post
+same-bz-intersection = ((λ κs a. tt), (λ κs a v w s t h k. (h .says ∙ sym (k .says), h .leaves ∙ sym (k .leaves))))
 
-pub same-bz-difference : SettledLent 3 bz-difference-kinds.ps bz-difference-kinds.r ℕ (List ℤ)
-    (λ κs s. now (s .1 .1 .0)) bz-difference.Post
-same-bz-difference κs a v w s t h k = (h .says ∙ sym (k .says), h .leaves ∙ sym (k .leaves))
+pub same-bz-difference : SettledLent 3 bz-difference-kinds.ps bz-difference-kinds.r (List ℤ)
+    (λ κs s. now (s .1 .1 .0)) bz-difference.Pre bz-difference.Post
+same-bz-difference = ((λ κs a. tt), (λ κs a v w s t h k. (h .says ∙ sym (k .says), h .leaves ∙ sym (k .leaves))))
 
 -- the pressure and the row
-pub same-bz-gauge : SettledLent 2 bz-gauge-kinds.ps bz-gauge-kinds.r ℕ (Float × ℤ)
-    (λ κs s. (now (s .1 .1 .1 .1 .0), now (s .1 .1 .1 .1 .1 .0))) bz-gauge.Post
-same-bz-gauge κs a v w s t h k = sample-one h k
+pub same-bz-gauge : SettledLent 2 bz-gauge-kinds.ps bz-gauge-kinds.r (Float × ℤ)
+    (λ κs s. (now (s .1 .1 .1 .1 .0), now (s .1 .1 .1 .1 .1 .0))) bz-gauge.Pre bz-gauge.Post
+same-bz-gauge = ((λ κs a. tt), (λ κs a v w s t h k. sample-one h k))
 
-pub same-bz-read : SettledLent 2 bz-read-kinds.ps bz-read-kinds.r ℕ (List ℤ) (λ κs s. now (s .1 .0)) bz-read.Post
-same-bz-read κs a v w s t h k = (h .says ∙ sym (k .says), h .leaves ∙ sym (k .leaves))
+pub same-bz-read : SettledLent 2 bz-read-kinds.ps bz-read-kinds.r (List ℤ) (λ κs s. now (s .1 .0))
+    bz-read.Pre bz-read.Post
+same-bz-read = ((λ κs a. tt), (λ κs a v w s t h k. (h .says ∙ sym (k .says), h .leaves ∙ sym (k .leaves))))

@@ -1,4 +1,7 @@
+pub mod Demands
 pub mod Settled
+pub mod EndingLaws
+pub mod Questions
 pub mod Promises
 pub mod Joining
 pub mod Walks
@@ -11,3 +14,4 @@ pub mod Slips
 pub mod Gauges
 pub mod Files
 pub mod Boundary
+pub mod BoundaryQuestions

@@ -1,6 +1,8 @@
--- What the library promises of charts: the page to open first. Each statement is over document 01's definitions, and
--- never over a program; that each function answers what its definition says is its own contract, proved beside it.
+-- What the library promises of charts. Each statement is over document 01's definitions, and never over a program; that
+-- each function answers what its definition says is its own contract, proved beside it. The three demands, each as one
+-- theorem: Demands.antt.
 --     acceptance          demand 2: a chart is accepted exactly when it is a region
+--     empty-accepted      the empty chart is one
 --     point-counted       demand 2: Inside, Outside and Edge follow from the segments counted below a point
 --     nearest-boundary    demand 3, first part: the side mark of the nearest boundary below says what the count says
 --     named-inside, nothing-outside    so where `nearest below` names a record its mark tells Inside from Outside, and
@@ -27,14 +29,15 @@ use lib.Dec.{eqb}
 use lib.IntN.{ℤ}
 use lib.ListN.{length, take}
 use borrow.Author.Tests.{eqb-true, eqb-false}
-use Rattle.counts.specs.Count.{_∈_, odd}
+use Rattle.counts.specs.Count.{_∈_, odd, firstIndex, listed}
+use Rattle.counts.specs.Scan.{firstFrom}
 use Rattle.counts.proofs.ListedLaws.{mem-listed}
 use Rattle.plane.specs.declared.Point.{Point}
 use Rattle.record.specs.Records.{width, recordAt, recordCount, records, marked}
 use Rattle.parts.specs.Parts.{Part, atCorner, runOf, Run}
 use Rattle.parts.proofs.RunLaws.{run-only, run-all}
 use Rattle.chart.specs.declared.Verdict.the-variants.{Accepted}
-use Rattle.chart.specs.Verdicts.{limit, verdict}
+use Rattle.chart.specs.Verdicts.{limit, judged, verdict}
 use Rattle.chart.specs.Regions.{Region}
 use Rattle.chart.proofs.RegionLaws.{accepted-is}
 use Rattle.chart.proofs.OnceLaws.{region-place}
@@ -61,6 +64,10 @@ use Rattle.join.proofs.OutcomeLaws.{Combined, joins-combined}
 
 pub acceptance : (s : List ℤ) → (verdict s ≡ Accepted) ↔ Region s
 acceptance = accepted-is
+
+pub empty-accepted : verdict [] ≡ Accepted
+unfolding verdict judged firstFrom firstIndex listed
+empty-accepted = refl
 
 pub point-counted : (s : List ℤ) (p : Point) → Region s
     → placed s p ≡ cond (held (records s) p) Edge (cond (odd (below (records s) p)) Inside Outside)

@@ -1,1 +1,2 @@
 pub mod Bench
+pub mod Endings

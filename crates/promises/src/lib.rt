@@ -1,1 +1,1 @@
-// No code: what the library promises, cited in one place. proofs/Promises.antt is the page to open first.
+// No code: what the library promises, cited in one place. proofs/Demands.antt is the page to open first.

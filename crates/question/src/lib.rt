@@ -1,13 +1,11 @@
 // Questions about a chart: where a point lies, and the run at a corner.
 // Each judges the chart first and hands a refusal on; callers check nothing.
 ghost use mathlib.Core.Path.{_≡_};
-ghost use Prim.Native.Nat.{_+_, _*_, _≤_, _<_};
-ghost use lib.ListN.{length};
 ghost use Rattle.counts.specs.Count.{odd};
 ghost use Rattle.counts.specs.Scan.{Found, Counted};
 ghost use Rattle.plane.specs.Columns.{holds};
 ghost use Rattle.grid.specs.Coordinates.{pointOf};
-ghost use Rattle.record.specs.Records.{width, recordAt, firstRecords, records};
+ghost use Rattle.record.specs.Records.{recordAt, firstRecords, records};
 ghost use Rattle.segment.specs.Segments.{ofSegment};
 ghost use Rattle.region.specs.Boundaries.{held, counted, below};
 ghost use Rattle.question.specs.Places.{placeBy, placed};
@@ -37,7 +35,6 @@ fn is_held(p: Point, e: Record) -> bool
 }
 
 fn first_held(s: &[i16], n: usize, p: Point) -> usize
-    requires { ⌜ width * n ≤ length (now s) ⌝ }
     ensures { λ r. ⌜ Found (ofSegment (holds p)) (recordAt (now (s .entry))) 0 n r ⌝ }
 {
     let mut i = 0;
@@ -66,7 +63,6 @@ pub fn is_below(p: Point, e: Record) -> bool
 }
 
 fn count_below(s: &[i16], n: usize, p: Point) -> usize
-    requires { ⌜ width * n ≤ length (now s) ⌝ }
     ensures { λ m. ⌜ Counted (counted p) (recordAt (now (s .entry))) n m ⌝ }
 {
     let mut i = 0;
@@ -82,7 +78,6 @@ fn count_below(s: &[i16], n: usize, p: Point) -> usize
 }
 
 fn is_odd_below(s: &[i16], n: usize, p: Point) -> bool
-    requires { ⌜ width * n ≤ length (now s) ⌝ }
     ensures { λ b. ⌜ b ≡ odd (below (firstRecords (now (s .entry)) n) p) ⌝ }
 {
     count_below(s, n, p) % 2 == 1

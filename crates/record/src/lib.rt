@@ -1,8 +1,9 @@
 // A record of a chart, read out of a chart array. The order of two records is in order.rt; the parts of an array that
 // hold records are the crate parts.
 ghost use mathlib.Core.Path.{_≡_};
-ghost use Prim.Native.Nat.{_+_, _*_, _≤_, _<_};
-ghost use lib.ListN.{length};
+ghost use Prim.Native.Nat.{_+_, _*_, _<_};
+ghost use lib.IntN.{pos};
+ghost use lib.ListN.{getD};
 ghost use Rattle.record.specs.Records.{width, pointAt, recordAt};
 ghost use Rattle.record.specs.Order.{left, otherHalf};
 use plane::Point;
@@ -27,22 +28,41 @@ pub struct Record {
 
 // ---- reading: the one place where a record is taken out of an array
 
-fn point_at(s: &[i16], i: usize) -> Point
-    requires { ⌜ i + 1 < length (now s) ⌝ }
-    ensures { λ r. ⌜ r ≡ pointAt (now (s .entry)) i ⌝ }
+// No array is so long that it has a record here or further on; before, the place of a record's number does not wrap.
+const PAST: usize = usize::MAX / WIDTH;
+
+// Number k of record i; where the array ends before it, it reads as 0.
+fn number_of(s: &[i16], i: usize, k: usize) -> i16
+    requires { ⌜ k < width ⌝ }
+    ensures { λ r. ⌜ r ≡ getD (now (s .entry)) (width * i + k) (pos 0) ⌝ }
 {
-    grid::point_of(s[i], s[i + 1])
+    if PAST <= i {
+        return 0;
+    }
+    let j = WIDTH * i + k;
+    if s.len() <= j {
+        return 0;
+    }
+    s[j]
 }
 
+fn point_at(s: &[i16], i: usize, k: usize) -> Point
+    requires { ⌜ k + 1 < width ⌝ }
+    ensures { λ r. ⌜ r ≡ pointAt (now (s .entry)) (width * i + k) ⌝ }
+{
+    let x = number_of(s, i, k);
+    let y = number_of(s, i, k + 1);
+    grid::point_of(x, y)
+}
+
+// Record i of any array: what is missing reads as 0.
 pub fn record_at(s: &[i16], i: usize) -> Record
-    requires { ⌜ width * i + width ≤ length (now s) ⌝ }
     ensures { λ r. ⌜ r ≡ recordAt (now (s .entry)) i ⌝ }
 {
-    let b = WIDTH * i;
     Record {
-        dom: point_at(s, b),
-        other: point_at(s, b + 2),
-        mark: grid::count_of(s[b + 4]),
+        dom: point_at(s, i, 0),
+        other: point_at(s, i, 2),
+        mark: grid::count_of(number_of(s, i, 4)),
     }
 }
 

@@ -15,7 +15,7 @@ twice-area-requires c κs =
     let judged = c .before .before in
     let s = judged .before .args .chart .now in
     let accepted = sym (judged .check .ensures) ∙ c .enum-told .given .1 in
-    (search needs, omega (arith, accepted-is s .0 accepted .few))
+    omega (arith, accepted-is s .0 accepted .few)
 
 returns : tie.Need-returns
 returns c =

@@ -17,8 +17,8 @@ returns c =
     let start = c .before .before in
     let gains = c .before .sum-of-gains in
     let losses = c .sum-of-losses in
-    difference-is w64 (gains .result) (losses .result) (sum-small (gains .ensures) (start .pre .1))
-    (sum-small (losses .ensures) (start .pre .1))
+    difference-is w64 (gains .result) (losses .result) (sum-small (gains .ensures) (start .pre))
+    (sum-small (losses .ensures) (start .pre))
     ∙ ap₂ diff (gains .ensures .is) (losses .ensures .is)
     ∙ sym (twiceArea-is (firstRecords (start .args .s .now) (start .args .n)))
 

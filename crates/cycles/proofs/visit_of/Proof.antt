@@ -4,11 +4,10 @@ use borrow.Author.Needs.{needs}
 use lib.ListN.{getD}
 use Rattle.counts.proofs.LoopLaws.{Seen, scanning}
 use Rattle.walks.specs.Walks.{from}
-use Rattle.cycles.proofs.HalfLaws.{stretch-known}
 use Rattle.cycles.proofs.visit_of.Statement.{statement}
 use Rattle.cycles.proofs.visit_of.Tie as tie
 
-ruleset all = (needs, stretch-known, scanning)
+ruleset all = (needs, scanning)
 
 abbrev Inv-loop : tie.InvT-loop
 Inv-loop s p rest m k₀ k = Seen (from s p) (λ t. getD rest t 0) 0 m k

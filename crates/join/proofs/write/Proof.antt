@@ -44,6 +44,6 @@ write-spec =
     (λ c. search needs) (λ c. search needs) (λ c. search needs) (λ c. search needs) (λ c. search needs)
     (λ c. search needs) (λ c. search needs) (λ c. search needs) (λ c. search needs) (λ c. search needs)
     (λ c κs. search needs)
-    (λ c. search needs) (λ c κs. (search all, search all)) (λ c. search needs) (λ c. search all) (λ c. search all)
-    (λ c. search needs) (λ c κs. (search all, search all)) (λ c. search needs) less again
+    (λ c. search needs) (λ c κs. search all) (λ c. search needs) (λ c. search all) (λ c. search all)
+    (λ c. search needs) (λ c κs. search all) (λ c. search needs) less again
     (λ c. search needs) (λ c. search all) (λ c. search all))
