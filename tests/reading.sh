@@ -1,7 +1,7 @@
 #!/usr/bin/env bash
-# docs/READING.md is kept true: in the part that goes through document 01 sentence by sentence, each definition is in specs/
-# of some crate, each function in src/, each theorem in proofs/, and each wrong edit in must-fail/ of the crate that is named
-# after it.
+# docs/READING.md is kept true: in the part that goes through document 01 sentence by sentence, each definition is in
+# specs/ of some crate, each function in src/, each theorem in proofs/, and each wrong edit in must-fail/ of the crate
+# that is named after it.
 set -u
 cd "$(dirname "$0")/.." || exit 2
 room=$(mktemp -d) || exit 2
@@ -22,11 +22,15 @@ for edit in crates/*/must-fail/*.edit; do
     echo "${crate%%/*}/$(basename "$edit" .edit)"
 done >"$room/edit"
 
-# What is named, by the head of its column: KIND NAME to a line. A wrong edit's crate stands in brackets after its names.
+# What is named, by the head of its column: KIND NAME to a line. A wrong edit's crate stands in brackets after it.
 awk -F' *[|] *' '
     /^## / { on = ($0 ~ /^## Document 01, sentence by sentence/) }
     !on || !/^[|]/ { next }
-    $2 == "sentence" || $2 == "slip" || $2 == "empty version" { for (i = 2; i < NF; i++) head[i] = $i; columns = NF; next }
+    $2 == "sentence" || $2 == "slip" || $2 == "empty version" {
+        for (i = 2; i < NF; i++) head[i] = $i
+        columns = NF
+        next
+    }
     NF != columns { print "row " $2; next }
     {
         for (i = 3; i < NF; i++) {

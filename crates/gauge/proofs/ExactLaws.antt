@@ -3,10 +3,9 @@
 --     exactly-one              so one float at most is exactly z 256ths
 --     value-multiple, value-size, value-minus    a float that is n 256ths in size is a multiple of 1/256, of that size
 --                              and sign
---     exactly-multiple, exactly-size, exactly-units    it is a multiple of 1/256, and z is how many 256ths it is
+--     exactly-size, exactly-units    z is how many 256ths it is
 --     multiple-value           and a multiple of 1/256 has its size and sign for its value
 --     positive-value           so one whose 256ths are n above zero is n / 256
---     units-exactly            a multiple of 1/256 is exactly its 256ths, unless it is the negative zero
 --     zero-exactly             the positive zero is exactly 0
 --     floatOf                  the float of z 256ths
 --     float-exactly            it is exactly that, if z is below 2 ^ 53 in size
@@ -77,9 +76,6 @@ module _ (s : Bool) (n : ℕ) where
   value-minus (fin u m e) v = v .0
 
 module _ {x : Float} {z : ℤ} (p : Exactly x z) where
-  pub exactly-multiple : isMultiple x ≡ true
-  exactly-multiple = value-multiple (isMinus z) (natAbs z) x (p .value)
-
   pub exactly-size : size x ≡ natAbs z
   exactly-size = value-size (isMinus z) (natAbs z) x (p .value)
 
@@ -109,16 +105,6 @@ positive-value x n h u some = go (hasMinus x) (size x) u (multiple-value x h)
     go false k e v = subst (λ m. HasValue x false m 256) (ap natAbs e) v
     go true zero e v = absurd (none (ap natAbs e))
     go true (suc k) e v = absurd (false≢true (ap nonNeg e))
-
-pub units-exactly : {x : Float} → fits binary64 x ≡ true → isMultiple x ≡ true → (hasMinus x ≡ true → 0 < size x)
-    → Exactly x (units x)
-unfolding units
-units-exactly {x} f h nonzero = go (hasMinus x) (size x) nonzero (multiple-value x h)
-  where
-    go : (s : Bool) (n : ℕ) → (s ≡ true → 0 < n) → HasValue x s n 256 → Exactly x (signed s n)
-    go false n l v = record { held = f; value = v }
-    go true zero l v = absurd (omega (arith, l refl))
-    go true (suc n) l v = record { held = f; value = v }
 
 pub zero-exactly : Exactly (fin false 0 (pos 0)) (pos 0)
 unfolding fits

@@ -4,7 +4,6 @@
 --                          needs
 --     numberIn-size        so it is of every number that is taken
 --     numberIn-append      bytes past the third change nothing of it
---     numberIn-largest     the largest number there is
 -- Assumes nothing.
 use mathlib.Core.Path.{_≡_, refl}
 use mathlib.Core.Bool.{Bool, true, false, cond}
@@ -13,7 +12,6 @@ use Prim.Native.Nat.{ℕ, _+_, _*_, _<_, _≤_}
 use native.Mathlib.Omega.{arith}
 use lib.Dec.{eqb}
 use lib.ListN.{length}
-use Rattle.counts.specs.Count.{firstIndex}
 use Rattle.counts.proofs.TestLaws.{tests}
 use Rattle.chart.specs.declared.Refusal.{Refusal}
 use Rattle.number.specs.declared.Number.the-variants.{Value, Refused}
@@ -96,8 +94,3 @@ first-append (a ∷ b ∷ c ∷ bs) more at l = refl
 -- three bytes settle a number, whatever follows
 pub numberIn-append : (bs more : List ℕ) (at : ℕ) → 3 ≤ length bs → numberIn (bs ++ more) at ≡ numberIn bs at
 numberIn-append bs more at l = rw (numberIn-groups (bs ++ more) at, numberIn-groups bs at) (first-append bs more at l)
-
--- the largest that three bytes can write
-pub numberIn-largest : numberIn (255 ∷ 255 ∷ 127 ∷ []) 0 ≡ Value 2097151 3
-unfolding numberIn firstIndex
-numberIn-largest = refl

@@ -1,8 +1,8 @@
 -- The three tests of specs/Turns.antt are the determinant's sign; and what they say when the points change places.
 --     determinant-is    the determinant is plus less minus
 --     turnsLeft-is, turnsRight-is, straight-is     the tests are its sign
---     plus-turn, minus-turn, turnsLeft-turn, turnsRight-turn, straight-turn     from the next corner: the same
---     plus-swap, minus-swap, turnsLeft-swap, turnsRight-swap, straight-swap     two corners exchanged: the other way
+--     plus-turn, minus-turn, turnsLeft-turn     from the next corner: the same
+--     plus-swap, minus-swap, turnsLeft-swap, turnsRight-swap     two corners exchanged: the other way
 -- Assumes nothing.
 use mathlib.Core.Path.{_≡_, sym, ap, ap₂, _∙_}
 use mathlib.Core.Logic.{_↔_}
@@ -13,7 +13,6 @@ use lib.Dec.{ltb, eqb}
 use lib.IntN.{pos, _-ℤ_, _*ℤ_}
 use lib.Signed.{ltZ}
 use borrow.Author.Tests.{eqb-true, eq-eqb}
-use Rattle.counts.proofs.TestLaws.{eqb-swap}
 use Rattle.plane.specs.declared.Point.{Point}
 use Rattle.plane.specs.Turns.{direction, determinant, plus, minus, turnsLeft, turnsRight, straight}
 use Rattle.plane.proofs.DifferenceLaws.{diff, diff-same, diff-sub, diff-mul}
@@ -74,21 +73,9 @@ pub turnsLeft-turn : (p q r : Point) → turnsLeft q r p ≡ turnsLeft p q r
 unfolding turnsLeft
 turnsLeft-turn p q r = ap₂ ltb (minus-turn p q r) (plus-turn p q r)
 
-pub turnsRight-turn : (p q r : Point) → turnsRight q r p ≡ turnsRight p q r
-unfolding turnsRight
-turnsRight-turn p q r = ap₂ ltb (plus-turn p q r) (minus-turn p q r)
-
-pub straight-turn : (p q r : Point) → straight q r p ≡ straight p q r
-unfolding straight
-straight-turn p q r = ap₂ eqb (minus-turn p q r) (plus-turn p q r)
-
 pub turnsRight-swap : (p q r : Point) → turnsRight q p r ≡ turnsLeft p q r
 unfolding turnsRight turnsLeft
 turnsRight-swap p q r = ap₂ ltb (plus-swap p q r) (minus-swap p q r)
 
 pub turnsLeft-swap : (p q r : Point) → turnsLeft q p r ≡ turnsRight p q r
 turnsLeft-swap p q r = sym (turnsRight-swap q p r)
-
-pub straight-swap : (p q r : Point) → straight q p r ≡ straight p q r
-unfolding straight
-straight-swap p q r = ap₂ eqb (minus-swap p q r) (plus-swap p q r) ∙ eqb-swap (plus p q r) (minus p q r)

@@ -4,7 +4,7 @@ ghost use mathlib.Core.Path.{_≡_};
 ghost use Prim.Native.Nat.{_+_, _*_, _<_};
 ghost use lib.IntN.{pos};
 ghost use lib.ListN.{getD};
-ghost use Rattle.record.specs.Records.{width, pointAt, recordAt};
+ghost use Rattle.record.specs.Records.{width, recordAt};
 ghost use Rattle.record.specs.Order.{left, otherHalf};
 use plane::Point;
 
@@ -28,41 +28,37 @@ pub struct Record {
 
 // ---- reading: the one place where a record is taken out of an array
 
-// No array is so long that it has a record here or further on; before, the place of a record's number does not wrap.
-const PAST: usize = usize::MAX / WIDTH;
-
-// Number k of record i; where the array ends before it, it reads as 0.
+// Number k of record i. It reads as 0 where it is missing: past the end, and past what is left over there.
 fn number_of(s: &[i16], i: usize, k: usize) -> i16
     requires { ⌜ k < width ⌝ }
     ensures { λ r. ⌜ r ≡ getD (now (s .entry)) (width * i + k) (pos 0) ⌝ }
 {
-    if PAST <= i {
+    let n = s.len() / WIDTH;
+    if i < n {
+        return s[WIDTH * i + k];
+    }
+    if n < i {
         return 0;
     }
-    let j = WIDTH * i + k;
-    if s.len() <= j {
+    if s.len() % WIDTH <= k {
         return 0;
     }
-    s[j]
-}
-
-fn point_at(s: &[i16], i: usize, k: usize) -> Point
-    requires { ⌜ k + 1 < width ⌝ }
-    ensures { λ r. ⌜ r ≡ pointAt (now (s .entry)) (width * i + k) ⌝ }
-{
-    let x = number_of(s, i, k);
-    let y = number_of(s, i, k + 1);
-    grid::point_of(x, y)
+    s[WIDTH * i + k]
 }
 
 // Record i of any array: what is missing reads as 0.
 pub fn record_at(s: &[i16], i: usize) -> Record
     ensures { λ r. ⌜ r ≡ recordAt (now (s .entry)) i ⌝ }
 {
+    let x = number_of(s, i, 0);
+    let y = number_of(s, i, 1);
+    let u = number_of(s, i, 2);
+    let v = number_of(s, i, 3);
+    let mark = number_of(s, i, 4);
     Record {
-        dom: point_at(s, i, 0),
-        other: point_at(s, i, 2),
-        mark: grid::count_of(number_of(s, i, 4)),
+        dom: grid::point_of(x, y),
+        other: grid::point_of(u, v),
+        mark: grid::count_of(mark),
     }
 }
 

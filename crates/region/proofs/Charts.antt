@@ -11,7 +11,6 @@
 --     under M s x t      t covers the strip right of column x, and is below s in the middle of it
 --     upTo M s x t       the same, at or below
 --     endsUp p t         t is vertical and ends at p, from below
---     startsUp p t       t is vertical and starts at p, upwards
 -- Assumes nothing.
 use mathlib.Core.Path.{_≡_}
 use mathlib.Core.Logic.{_⊎_}
@@ -70,6 +69,3 @@ upTo M s x t = covers x t && leb (key M t x) (key M s x)
 
 abbrev pub endsUp : Point → Segment → Bool
 endsUp p t = vertical t && same (t .b) p
-
-abbrev pub startsUp : Point → Segment → Bool
-startsUp p t = vertical t && same (t .a) p

@@ -1,13 +1,12 @@
 -- How the parities left and right of a column differ, at a point p of it that lies inside no segment of a chart.
 --     across-ends     across the height of p lies just what ends there from below
 --     corner-below    below p they differ exactly if a vertical segment ends there, from below
---     corner-upTo     at or below p they differ exactly if one starts there, upwards
 -- Assumes nothing.
 use mathlib.Core.Path.{_≡_, refl, sym, ap, _∙_}
 use mathlib.Core.Logic.{inl, inr, _↔_}
 use mathlib.Core.Bool.{Bool, true, false, _&&_, true≢false}
 use mathlib.Core.List.{List}
-use Prim.Native.Nat.{ℕ, suc, _*_, _<_, _≤_}
+use Prim.Native.Nat.{ℕ, _*_, _<_, _≤_}
 use native.Mathlib.Nat.{lt-of-mul-lt-mul-left, le-of-mul-le-mul-left, mul-lt-mul-of-pos-left}
 use native.Mathlib.Omega.{arith}
 use Rattle.counts.specs.Count.{_∈_, count, any, odd, _⊕_}
@@ -23,7 +22,7 @@ use Rattle.plane.proofs.Heights.{Scale}
 use Rattle.plane.proofs.PointLaws.{Before, before-true}
 use Rattle.plane.proofs.WithinLaws.{within-is}
 use Rattle.plane.proofs.VerticalLaws.{upright-between}
-use Rattle.region.proofs.Charts.{SoundChart, fromLeft, toRight, across, endsUp, startsUp}
+use Rattle.region.proofs.Charts.{SoundChart, fromLeft, toRight, across, endsUp}
 use Rattle.region.proofs.ColumnLemma.{column}
 use Rattle.region.proofs.AcrossLaws.{across-is, across-most}
 
@@ -45,7 +44,7 @@ module _ {W : ℕ} (M : ℕ) (scale : Scale W M) {ss : List Segment} (sound : So
       true≢false
       (sym (within-is t p (sound .chart .forward t m) .1 (upright-between t p ea eb lo hi)) ∙ outside t m)
 
-  -- what the tests `endsUp` and `startsUp` say, of the end q
+  -- what the test `endsUp` says, of the end q
   up-is : (t : Segment) (q : Point) → (vertical t && same q p ≡ true)
       ↔ ((t .a .x ≡ t .b .x) × ((q .x ≡ p .x) × (q .y ≡ p .y)))
   up-is t q = and-is _ _ (eqb-is refl) (λ _. and-is _ _ (eqb-is refl) (λ _. eqb-is refl))
@@ -73,27 +72,6 @@ module _ {W : ℕ} (M : ℕ) (scale : Scale W M) {ss : List Segment} (sound : So
           let h = up-is t (t .b) .0 e in
           across-is M (p .x) (2 * M * p .y) t .1 (omega (arith, upwards t m (h .0), ap (λ n. 2 * M * n) (h .1 .1)))
 
-  across-starts : (t : Segment) → t ∈ ss → across M (p .x) (suc (2 * M * p .y)) t ≡ startsUp p t
-  across-starts t m = same-test _ _ to from
-    where
-      to : across M (p .x) (suc (2 * M * p .y)) t ≡ true → startsUp p t ≡ true
-      to e =
-          let h = across-is M (p .x) (suc (2 * M * p .y)) t .0 e in
-          let lo : t .a .y ≤ p .y = le-of-mul-le-mul-left {k = 2 * M} (omega arith) (omega (arith, scale .positive)) in
-          let hi : p .y < t .b .y = lt-of-mul-lt-mul-left (2 * M) (h .3) in
-          let not-before : ¬ (t .a .y < p .y) = λ l. not-between t m (h .0) (h .1) l hi in
-          up-is t (t .a) .1 (omega arith)
-
-      from : startsUp p t ≡ true → across M (p .x) (suc (2 * M * p .y)) t ≡ true
-      from e =
-          let h = up-is t (t .a) .0 e in
-          across-is M (p .x) (suc (2 * M * p .y)) t .1
-          (omega (arith, upwards t m (h .0), ap (λ n. 2 * M * n) (h .1 .1)))
-
   pub corner-below : odd (count (fromLeft M (p .x) (2 * M * p .y)) ss)
       ⊕ odd (count (toRight M (p .x) (2 * M * p .y)) ss) ≡ any (endsUp p) ss
   corner-below = corner (2 * M * p .y) (endsUp p) across-ends
-
-  pub corner-upTo : odd (count (fromLeft M (p .x) (suc (2 * M * p .y))) ss)
-      ⊕ odd (count (toRight M (p .x) (suc (2 * M * p .y))) ss) ≡ any (startsUp p) ss
-  corner-upTo = corner (suc (2 * M * p .y)) (startsUp p) across-starts

@@ -1,5 +1,5 @@
--- `first_elsewhere` meets its contract: the first from i on is the first from a on, since the loop has seen only records
--- at the corner. Assumes nothing.
+-- `first_elsewhere` meets its contract: the first from i on is the first from a on, since the loop has seen only
+-- records at the corner. Assumes nothing.
 use mathlib.Core.Path.{_≡_, sym, ap, _∙_}
 use mathlib.Core.Bool.{Bool, true, false}
 use mathlib.Core.List.{List}
