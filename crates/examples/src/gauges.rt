@@ -1,67 +1,59 @@
-// Gauges: document 01's examples, and a card that breaks a rule. A pressure is told by its bits.
-use crate::say;
+// Document 01's gauges. A pressure is told by its bits.
+ghost use Prim.Native.Nat.{_<_};
+use crate::answer;
+use crate::answer::Answer;
 use gauge::Card;
 
-pub(crate) fn about_gauges() {
-    about_bridges();
-    about_springs();
-    about_rules();
-}
+// Four bridges, then two springs: gain and zero, or rate and pin; and the sample.
+const FACTORS: [f64; 6] = [2.0, 2.0, 1.0, 0.5, 1.0, 1.0];
 
-fn about_bridges() {
-    say_bridge(b"gain 2, zero 0, sample 16383", 2.0, 0.0, 16383);
-    say_bridge(b"gain 2, zero 0, sample 16384", 2.0, 0.0, 16384);
-    say_bridge(b"gain 1, zero 1, sample -32768", 1.0, 1.0, -32768);
-    say_bridge(b"gain 0.5, zero 0, sample -1", 0.5, 0.0, -1);
-    say_bridge(b"gain 1, zero -0, sample 0", 1.0, -0.0, 0);
-}
+const BOUNDS: [f64; 6] = [0.0, 0.0, 1.0, 0.0, 1000.0, 1000.0];
 
-fn about_springs() {
-    say_spring(b"rate 1, pin 1000, sample 999", 1.0, 1000.0, 999);
-    say_spring(b"rate 1, pin 1000, sample 1000", 1.0, 1000.0, 1000);
-    say_spring(b"rate 1, pin 1000, sample -1", 1.0, 1000.0, -1);
-}
+const SAMPLES: [i16; 6] = [16383, 16384, -32768, -1, 999, 1000];
 
-fn about_rules() {
-    say_bridge(b"gain 3", 3.0, 0.0, 0);
-    say_bridge(b"a gain that is no number", 0.0 / 0.0, 0.0, 0);
-}
-
-fn say_spring(text: &[u8], rate: f64, pin: f64, sample: i16) {
-    say_gauged(text, Card::Spring { rate, pin }, sample);
-}
-
-fn say_bridge(text: &[u8], gain: f64, zero: f64, sample: i16) {
-    say_gauged(text, Card::Bridge { gain, zero }, sample);
-}
-
-fn say_gauged(text: &[u8], card: Card, sample: i16) {
-    let g = gauge::read_sample(card, sample);
+pub(crate) fn reading_of(k: usize) -> Answer
+    requires { ⌜ k < 6 ⌝ }
+{
+    let g = gauge::read_sample(card_of(k), SAMPLES[k]);
     let bits = f64::to_bits(g.reading.pressure);
-    say(text);
-    say_answer(g.refusal, g.reading.row, bits);
-}
-
-fn say_answer(refusal: u16, row: i16, bits: u64) {
-    if refusal == 0 {
-        say(b": row ");
-        say_row(row);
-        say(b", pressure ");
-        io::print_hex(1, bits, 16);
-    } else {
-        say(b": refusal ");
-        io::print_decimal(1, refusal as u64);
+    if g.refusal == 0 {
+        return row_answer(g.reading.row, bits);
     }
-    say(b"\n");
+    Answer {
+        kind: answer::REFUSAL,
+        number: g.refusal as u64,
+        beside: 0,
+    }
 }
 
-// By its count from the grid's lower end, where row 0 lies 32,768 up.
-fn say_row(row: i16) {
+fn card_of(k: usize) -> Card
+    requires { ⌜ k < 6 ⌝ }
+{
+    if k < 4 {
+        return Card::Bridge {
+            gain: FACTORS[k],
+            zero: BOUNDS[k],
+        };
+    }
+    Card::Spring {
+        rate: FACTORS[k],
+        pin: BOUNDS[k],
+    }
+}
+
+// A row by its count from the grid's lower end, where row 0 lies 32,768 up.
+fn row_answer(row: i16, bits: u64) -> Answer {
     let n = grid::count_of(row) as u64;
     if n < 32768 {
-        say(b"-");
-        io::print_decimal(1, 32768 - n);
-        return;
+        return Answer {
+            kind: answer::ROW_BELOW,
+            number: 32768 - n,
+            beside: bits,
+        };
     }
-    io::print_decimal(1, n - 32768);
+    Answer {
+        kind: answer::ROW,
+        number: n - 32768,
+        beside: bits,
+    }
 }

@@ -6,8 +6,8 @@ use lib.Signed.{ltZ}
 use mir.Syntax.{w64}
 use mir.ValLaws.{toZ-ofZ}
 use Rattle.grid.proofs.CastLaws.{natural-fits}
-use Rattle.examples.proofs.magnitude.Statement.{statement}
-use Rattle.examples.proofs.magnitude.Tie as tie
+use Rattle.examples.proofs.charts.magnitude.Statement.{statement}
+use Rattle.examples.proofs.charts.magnitude.Tie as tie
 
 cast-result : tie.Need-cast-result
 cast-result c =
