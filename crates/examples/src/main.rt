@@ -1,5 +1,5 @@
-// Document 01's bench examples, run: a line each, what is asked and the answer. The gate compares the lines with the file
-// stdout. (Every refusal, at every record and two at once, is the judge's to ask: rust/judge.)
+// Document 01's bench examples, run: a line each, what is asked and the answer. The gate compares the lines with the
+// file stdout. (Every refusal, at every record and two at once, is the judge's to ask: rust/judge.)
 ghost use Prim.Native.Nat.{_<_};
 
 mod answer;

@@ -1,5 +1,5 @@
--- `record_at` meets its contract: its numbers are what `number_of` says. All are sixteen-bit ones, so their bits are the
--- numbers. Assumes nothing.
+-- `record_at` meets its contract: its numbers are what `number_of` says. All are sixteen-bit ones, so their bits are
+-- the numbers. Assumes nothing.
 use mathlib.Core.Path.{_≡_, ap, ap₂, _∙_}
 use Prim.Native.Nat.{_+_, _*_}
 use native.Mathlib.Nat.{add-zero}
