@@ -46,18 +46,19 @@ fn number_of(s: &[i16], i: usize, k: usize) -> i16
     s[WIDTH * i + k]
 }
 
-// Record i of any array: what is missing reads as 0.
+// Record i of any array: what is missing reads as 0. All numbers are read before any is used, so that those of a whole
+// record cost one test together.
 pub fn record_at(s: &[i16], i: usize) -> Record
     ensures { λ r. ⌜ r ≡ recordAt (now (s .entry)) i ⌝ }
 {
     let x = number_of(s, i, 0);
     let y = number_of(s, i, 1);
-    let u = number_of(s, i, 2);
-    let v = number_of(s, i, 3);
+    let other_x = number_of(s, i, 2);
+    let other_y = number_of(s, i, 3);
     let mark = number_of(s, i, 4);
     Record {
         dom: grid::point_of(x, y),
-        other: grid::point_of(u, v),
+        other: grid::point_of(other_x, other_y),
         mark: grid::count_of(mark),
     }
 }
