@@ -1,1 +1,2 @@
 pub mod AmongLaws
+pub mod Sets

@@ -1,5 +1,7 @@
 // One record, segment or point among the records of an array: whether it is there, whether one touches it, how many end
 // at it, how many are counted for its mark. The array need be no chart. A segment is counted once, by its left half.
+#![tactic(auto)]
+
 ghost use Rattle.std.specs.Prelude.{◌≡◌};
 ghost use Rattle.counts.specs.Scan.{Found, Counted};
 ghost use Rattle.plane.specs.Points.{is_segment};
@@ -14,6 +16,7 @@ use record::{Record, WIDTH, record_at};
 
 // ---- a record
 
+#[tactic(auto, using(counts::proofs::StepLaws::looking))]
 fn first_same(s: &[i16], n: usize, e: Record) -> usize
     ensures { Found (is_record e) (record_at s.now) 0 n result }
 {
@@ -37,6 +40,7 @@ pub fn place_of(s: &[i16], e: Record) -> usize
 }
 
 // Whether the record is there, with its mark.
+#[tactic(auto, using(crate::proofs::Sets::for_has_record))]
 pub fn has_record(s: &[i16], e: Record) -> bool
     ensures { result ≡ has (records s.now) e }
 {
@@ -46,12 +50,14 @@ pub fn has_record(s: &[i16], e: Record) -> bool
 
 // ---- a segment
 
+#[tactic(auto, using(segment::proofs::StandLaws::standing))]
 fn is_same_half(t: Segment, e: Record) -> bool
     ensures { result ≡ of_segment (is_segment t) e }
 {
     record::is_left(e) && segment::is_segment(t, segment::segment_of(e))
 }
 
+#[tactic(auto, using(counts::proofs::StepLaws::looking))]
 fn first_same_half(s: &[i16], n: usize, t: Segment) -> usize
     ensures { Found (of_segment (is_segment t)) (record_at s.now) 0 n result }
 {
@@ -67,6 +73,7 @@ fn first_same_half(s: &[i16], n: usize, t: Segment) -> usize
 }
 
 // Whether the segment is there, whatever its mark.
+#[tactic(auto, using(crate::proofs::Sets::for_has_segment))]
 pub fn has_segment(s: &[i16], t: Segment) -> bool
     ensures { result ≡ has_segment (records s.now) t }
 {
@@ -76,12 +83,14 @@ pub fn has_segment(s: &[i16], t: Segment) -> bool
 
 // ---- a segment that touches
 
+#[tactic(auto, using(segment::proofs::StandLaws::standing))]
 fn is_touching_half(t: Segment, e: Record) -> bool
     ensures { result ≡ of_segment (touches t) e }
 {
     record::is_left(e) && segment::is_touching(t, segment::segment_of(e))
 }
 
+#[tactic(auto, using(counts::proofs::StepLaws::looking))]
 fn first_touching(s: &[i16], n: usize, t: Segment) -> usize
     ensures { Found (of_segment (touches t)) (record_at s.now) 0 n result }
 {
@@ -97,6 +106,7 @@ fn first_touching(s: &[i16], n: usize, t: Segment) -> usize
 }
 
 // Whether a segment of the array touches this one.
+#[tactic(auto, using(crate::proofs::Sets::for_is_touched))]
 pub fn is_touched(s: &[i16], t: Segment) -> bool
     ensures { result ≡ touched (records s.now) t }
 {
@@ -106,12 +116,14 @@ pub fn is_touched(s: &[i16], t: Segment) -> bool
 
 // ---- ends at a point
 
+#[tactic(auto, using(segment::proofs::StandLaws::standing))]
 fn is_ending_half(p: Point, e: Record) -> bool
     ensures { result ≡ of_segment (ends_at p) e }
 {
     record::is_left(e) && segment::is_end(p, segment::segment_of(e))
 }
 
+#[tactic(auto, using(counts::proofs::StepLaws::summing))]
 fn count_ends(s: &[i16], n: usize, p: Point) -> usize
     ensures { Counted (of_segment (ends_at p)) (record_at s.now) n result }
 {
@@ -128,6 +140,7 @@ fn count_ends(s: &[i16], n: usize, p: Point) -> usize
 }
 
 // How many segments end at the point.
+#[tactic(auto, using(crate::proofs::Sets::for_end_count))]
 pub fn end_count(s: &[i16], p: Point) -> usize
     ensures { result ≡ end_count (records s.now) p }
 {
@@ -136,12 +149,14 @@ pub fn end_count(s: &[i16], p: Point) -> usize
 
 // ---- the counted mark
 
+#[tactic(auto, using(segment::proofs::StandLaws::standing))]
 fn is_counted_half(t: Segment, e: Record) -> bool
     ensures { result ≡ of_segment (counted_for t) e }
 {
     record::is_left(e) && segment::is_counted_for(t, segment::segment_of(e))
 }
 
+#[tactic(auto, using(counts::proofs::StepLaws::summing))]
 fn count_for(s: &[i16], n: usize, t: Segment) -> usize
     ensures { Counted (of_segment (counted_for t)) (record_at s.now) n result }
 {
@@ -158,6 +173,7 @@ fn count_for(s: &[i16], n: usize, t: Segment) -> usize
 }
 
 // The mark of a segment by document 01's count over the array's own segments.
+#[tactic(auto, using(crate::proofs::Sets::for_counted_mark), unfolding(grid::specs::Coordinates::up))]
 pub fn counted_mark(s: &[i16], t: Segment) -> u16
     ensures { result ≡ counted_mark (records s.now) t }
 {

@@ -1,2 +1,3 @@
 pub mod AreaLaws
 pub mod CastLaws
+pub mod Sets

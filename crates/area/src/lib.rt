@@ -1,5 +1,7 @@
 // Twice the area of a chart. Heights are counts, so each left half adds to two unsigned sums, gains and losses, which
 // are subtracted once, at the end.
+#![tactic(auto)]
+
 ghost use Rattle.std.specs.Prelude.{◌≡◌, ◌≤◌};
 ghost use Rattle.counts.specs.Scan.{Summed};
 ghost use Rattle.record.specs.Records.{record_at, first_records};
@@ -12,7 +14,7 @@ use record::{MARKED, Record, WIDTH, record_at};
 // The height 0, counted from the grid's lower end.
 const GROUND: u16 = 32768;
 
-#[derive(Drop)]
+#[derive(Clone, Copy)]
 pub enum Area {
     Twice(i64),
     Refused(Refusal),
@@ -21,6 +23,7 @@ pub enum Area {
 // ---- one record
 
 // How far across the segment of a left half goes. A right half counts for nothing, so that each segment is taken once.
+#[tactic(auto, using(crate::proofs::Sets::for_across_of))]
 fn across_of(r: Record) -> u16
     ensures { result ≡ across r }
 {
@@ -39,6 +42,7 @@ fn strip_of(w: u16, a: u16, b: u16) -> u64
     points::product(w, a) + points::product(w, b)
 }
 
+#[tactic(auto, using(crate::proofs::Sets::for_gain_of), unfolding(grid::specs::Coordinates::up))]
 fn gain_of(r: Record) -> u64
     ensures { Term (gain r) result }
 {
@@ -49,6 +53,7 @@ fn gain_of(r: Record) -> u64
     strip_of(w, r.dom.y, r.other.y)
 }
 
+#[tactic(auto, using(crate::proofs::Sets::for_loss_of), unfolding(grid::specs::Coordinates::up))]
 fn loss_of(r: Record) -> u64
     ensures { Term (loss r) result }
 {
@@ -61,6 +66,7 @@ fn loss_of(r: Record) -> u64
 
 // ---- the first n records
 
+#[tactic(auto, using(counts::proofs::StepLaws::summing))]
 fn sum_of_gains(s: &[i16], n: usize) -> u64
     requires { n ≤ most_records }
     ensures { Summed gain (record_at s.now) most_term n result }
@@ -75,6 +81,7 @@ fn sum_of_gains(s: &[i16], n: usize) -> u64
     m
 }
 
+#[tactic(auto, using(counts::proofs::StepLaws::summing))]
 fn sum_of_losses(s: &[i16], n: usize) -> u64
     requires { n ≤ most_records }
     ensures { Summed loss (record_at s.now) most_term n result }
@@ -90,6 +97,7 @@ fn sum_of_losses(s: &[i16], n: usize) -> u64
 }
 
 // Both sums stay below 2 to the 44, so their difference fits.
+#[tactic(auto, using(plane::proofs::DifferenceLaws::diff, crate::proofs::Sets::for_twice_area))]
 fn twice_area(s: &[i16], n: usize) -> i64
     requires { n ≤ most_records }
     ensures { result ≡ twice_area (first_records s.now n) }
@@ -102,6 +110,7 @@ fn twice_area(s: &[i16], n: usize) -> i64
 // ---- a chart
 
 // Twice the area of a chart, or why it is none.
+#[tactic(auto, using(crate::proofs::Sets::for_area2))]
 pub fn area2(chart: &[i16]) -> Area
     ensures { result ≡ area_of chart.now }
 {

@@ -5,3 +5,4 @@ pub mod VerdictLaws
 pub mod RegionLaws
 pub mod OnceLaws
 pub mod IndexLaws
+pub mod Sets

@@ -1,5 +1,7 @@
 // The check of a chart (document 01, "When a chart is turned away"): any array of numbers, to the paper's verdict.
 // The plain engine: each row of the table looks at every record, and compares each with each where the row asks for it.
+#![tactic(auto)]
+
 ghost use Rattle.std.specs.Prelude.{◌≡◌, ◌≤◌};
 ghost use Rattle.counts.specs.Scan.{Found};
 ghost use Rattle.record.specs.Records.{record_at, record_count, records};
@@ -12,13 +14,13 @@ use record::{Record, WIDTH, record_at};
 pub const LIMIT: usize = 512;
 
 // Why a question is refused: document 01's number, and the record at fault, or the place in a file, that it names.
-#[derive(Drop)]
+#[derive(Clone, Copy)]
 pub struct Refusal {
     pub number: u16,
     pub index: usize,
 }
 
-#[derive(Drop)]
+#[derive(Clone, Copy)]
 pub enum Verdict {
     Accepted,
     Refused(Refusal),
@@ -26,6 +28,7 @@ pub enum Verdict {
 
 // ---- 3: a record's two ends are equal
 
+#[tactic(auto, using(counts::proofs::StepLaws::looking))]
 fn first_equal_ends(s: &[i16], n: usize) -> usize
     ensures { Found equal_ends (record_at s.now) 0 n result }
 {
@@ -42,12 +45,14 @@ fn first_equal_ends(s: &[i16], n: usize) -> usize
 
 // ---- 4: a mark is neither 0 nor 1
 
+#[tactic(auto, unfolding(grid::specs::Coordinates::up))]
 fn has_bad_mark(r: Record) -> bool
     ensures { result ≡ bad_mark r }
 {
     (r.mark != record::UNMARKED) & (r.mark != record::MARKED)
 }
 
+#[tactic(auto, using(counts::proofs::StepLaws::looking))]
 fn first_bad_mark(s: &[i16], n: usize) -> usize
     ensures { Found bad_mark (record_at s.now) 0 n result }
 {
@@ -64,6 +69,7 @@ fn first_bad_mark(s: &[i16], n: usize) -> usize
 
 // ---- 5: a record does not come strictly after the one before
 
+#[tactic(auto, using(crate::proofs::Sets::for_is_not_after))]
 fn is_not_after(s: &[i16], i: usize) -> bool
     ensures { result ≡ not_after s.now i }
 {
@@ -73,6 +79,7 @@ fn is_not_after(s: &[i16], i: usize) -> bool
     !record::order::is_earlier(record_at(s, i - 1), record_at(s, i))
 }
 
+#[tactic(auto, using(counts::proofs::StepLaws::looking))]
 fn first_not_after(s: &[i16], n: usize) -> usize
     ensures { Found (not_after s.now) (λ i. i) 0 n result }
 {
@@ -88,12 +95,14 @@ fn first_not_after(s: &[i16], n: usize) -> usize
 
 // ---- 6: the other half is missing
 
+#[tactic(auto, using(crate::proofs::Sets::for_lacks_other_half))]
 fn lacks_other_half(s: &[i16], r: Record) -> bool
     ensures { result ≡ no_other_half (records s.now) r }
 {
     !among::has_record(s, record::other_half(r))
 }
 
+#[tactic(auto, using(counts::proofs::StepLaws::looking))]
 fn first_lacking(s: &[i16], n: usize) -> usize
     ensures { Found (no_other_half (records s.now)) (record_at s.now) 0 n result }
 {
@@ -110,12 +119,14 @@ fn first_lacking(s: &[i16], n: usize) -> usize
 
 // ---- 7: two segments touch
 
+#[tactic(auto, using(crate::proofs::Sets::for_is_taking_part))]
 fn is_taking_part(s: &[i16], r: Record) -> bool
     ensures { result ≡ touching (records s.now) r }
 {
     among::is_touched(s, segment::segment_of(r))
 }
 
+#[tactic(auto, using(counts::proofs::StepLaws::looking))]
 fn first_taking_part(s: &[i16], n: usize) -> usize
     ensures { Found (touching (records s.now)) (record_at s.now) 0 n result }
 {
@@ -132,6 +143,7 @@ fn first_taking_part(s: &[i16], n: usize) -> usize
 
 // ---- 8: an odd number of segments ends at a point
 
+#[tactic(auto, using(crate::proofs::Sets::for_is_odd_end))]
 fn is_odd_end(s: &[i16], r: Record) -> bool
     ensures { result ≡ odd_end (records s.now) r }
 {
@@ -139,6 +151,7 @@ fn is_odd_end(s: &[i16], r: Record) -> bool
     among::end_count(s, d) % 2 == 1
 }
 
+#[tactic(auto, using(counts::proofs::StepLaws::looking))]
 fn first_odd_end(s: &[i16], n: usize) -> usize
     ensures { Found (odd_end (records s.now)) (record_at s.now) 0 n result }
 {
@@ -155,6 +168,7 @@ fn first_odd_end(s: &[i16], n: usize) -> usize
 
 // ---- 9: a mark is not the counted one
 
+#[tactic(auto, using(crate::proofs::Sets::for_has_wrong_mark))]
 fn has_wrong_mark(s: &[i16], r: Record) -> bool
     ensures { result ≡ wrong_mark (records s.now) r }
 {
@@ -162,6 +176,7 @@ fn has_wrong_mark(s: &[i16], r: Record) -> bool
     r.mark != counted
 }
 
+#[tactic(auto, using(counts::proofs::StepLaws::looking))]
 fn first_wrong_mark(s: &[i16], n: usize) -> usize
     ensures { Found (wrong_mark (records s.now)) (record_at s.now) 0 n result }
 {
@@ -186,6 +201,7 @@ fn refused(number: u16, index: usize) -> Verdict
 
 // The records, row after row of the table. Never more than the limit: so the work, which grows as the square of their
 // number, is bounded whatever the array's length.
+#[tactic(auto, using(crate::proofs::Sets::for_judge), unfolding(crate::specs::Verdicts::judged))]
 fn judge(s: &[i16]) -> Verdict
     requires { record_count s.now ≤ limit }
     ensures { result ≡ judged s.now }
@@ -224,6 +240,7 @@ fn judge(s: &[i16]) -> Verdict
 
 // Whether an array of numbers is a chart; if not, why, and which record is at fault. An array past the limit is
 // turned away before any record is looked at.
+#[tactic(auto, unfolding(crate::specs::Verdicts::verdict))]
 pub fn check(chart: &[i16]) -> Verdict
     ensures { result ≡ verdict chart.now }
 {

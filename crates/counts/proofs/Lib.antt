@@ -14,6 +14,7 @@ pub mod TelescopeLaws
 pub mod ScanLaws
 pub mod LoopLaws
 pub mod ReadLaws
+pub mod StepLaws
 pub mod TopmostLaws
 pub mod JoinedLaws
 pub mod RepeatLaws

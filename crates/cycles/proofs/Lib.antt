@@ -11,3 +11,4 @@ pub mod CircleLaws
 pub mod FromLaws
 pub mod WalkingLaws
 pub mod AnswerLaws
+pub mod Sets

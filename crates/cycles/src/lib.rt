@@ -1,5 +1,7 @@
 // The walks of a chart and the cycles that they are cut into (document 01, "Faces, holes and area"). What a walk, a cut
 // and a cycle are: the crate walks.
+#![tactic(auto)]
+
 ghost use Rattle.std.specs.Prelude.{◌≡◌, ◌≤◌, ◌<◌, length, get_or, take, drop, ◌++◌};
 ghost use Rattle.counts.specs.Count.{listed};
 ghost use Rattle.counts.specs.Scan.{Found};
@@ -19,7 +21,7 @@ use record::{MARKED, Record, WIDTH, is_left, other_half, record_at};
 
 // What the walks of a chart come to: whether it is a chart at all, and for each of its records where its walk starts,
 // which is the least of those that are walked, and the first record of its cycle.
-#[derive(Drop)]
+#[derive(Clone, Copy)]
 pub struct Cycles {
     pub verdict: Verdict,
     pub starts: [usize; 512],
@@ -29,6 +31,7 @@ pub struct Cycles {
 // ---- the way
 
 // Whether the segment of r is walked from its dominating end, with the inside on the left.
+#[tactic(auto, using(crate::proofs::Sets::for_is_departing), unfolding(grid::specs::Coordinates::up))]
 fn is_departing(r: Record) -> bool
     ensures { result ≡ departs r }
 {
@@ -39,6 +42,7 @@ fn is_departing(r: Record) -> bool
 }
 
 // The other half of record i.
+#[tactic(auto, using(crate::proofs::WayLaws::back_found))]
 fn way_back(s: &[i16], i: usize) -> usize
     requires { Region s.now × (i < record_count s.now) }
     ensures { PlaceOf s.now (way_back s.now i) result }
@@ -48,6 +52,7 @@ fn way_back(s: &[i16], i: usize) -> usize
 }
 
 // Whether no record at its corner comes before record j.
+#[tactic(auto, using(crate::proofs::Sets::for_is_first_here))]
 fn is_first_here(s: &[i16], j: usize) -> bool
     ensures { result ≡ first_here s.now j }
 {
@@ -59,6 +64,7 @@ fn is_first_here(s: &[i16], j: usize) -> bool
 }
 
 // Turning clockwise from record j around its corner, the first record met.
+#[tactic(auto, using(counts::proofs::ReadLaws::found_from, crate::proofs::Sets::for_clockwise_from))]
 fn clockwise_from(s: &[i16], j: usize) -> usize
     requires { j < record_count s.now }
     ensures { PlaceOf s.now (clockwise s.now j) result }
@@ -73,6 +79,7 @@ fn clockwise_from(s: &[i16], j: usize) -> usize
 }
 
 // Which record is walked after record i.
+#[tactic(auto, using(crate::proofs::Sets::for_next_of))]
 fn next_of(s: &[i16], i: usize) -> usize
     requires { Region s.now × (i < record_count s.now) }
     ensures { PlaceOf s.now (next s.now i) result }
@@ -92,6 +99,7 @@ fn is_from(s: &[i16], p: Point, j: usize) -> bool
 }
 
 // The place, among the m records that are left of a walk, of the one that departs from p; m where there is none.
+#[tactic(auto, using(counts::proofs::StepLaws::looking))]
 fn visit_of(s: &[i16], p: Point, rest: &[usize], m: usize) -> usize
     requires { Stretch s.now rest.now 0 m }
     ensures { Found (from s.now p) (λ t. get_or rest.now t 0) 0 m result }
@@ -107,6 +115,7 @@ fn visit_of(s: &[i16], p: Point, rest: &[usize], m: usize) -> usize
     m
 }
 
+#[tactic(auto, using(crate::proofs::Sets::for_lesser_of))]
 fn lesser_of(i: usize, j: usize) -> usize
     ensures { result ≡ lesser i j }
 {
@@ -117,6 +126,7 @@ fn lesser_of(i: usize, j: usize) -> usize
 }
 
 // The least of f and of the records at the places from k on, below m, and their other halves.
+#[tactic(auto, using(crate::proofs::Sets::for_first_half))]
 fn first_half(s: &[i16], f: usize, rest: &[usize], k: usize, m: usize) -> usize
     requires { Region s.now × Stretch s.now rest.now k m }
     ensures { result ≡ first_half s.now f (drop k (take m rest.now)) }
@@ -133,6 +143,7 @@ fn first_half(s: &[i16], f: usize, rest: &[usize], k: usize, m: usize) -> usize
 }
 
 // Both halves of record j get the number v.
+#[tactic(auto, using(crate::proofs::Sets::for_name_record))]
 fn name_record(s: &[i16], v: usize, j: usize, to: &mut [usize])
     requires { Region s.now × (j < record_count s.now) × (record_count s.now ≤ length to.old) }
     ensures { to.new ≡ name_record s.now v j to.old }
@@ -143,6 +154,7 @@ fn name_record(s: &[i16], v: usize, j: usize, to: &mut [usize])
 }
 
 // Both halves of each of the records at the places from k on, below m, get the number v.
+#[tactic(auto, using(crate::proofs::Sets::for_name_all))]
 fn name_all(s: &[i16], v: usize, rest: &[usize], k: usize, m: usize, to: &mut [usize])
     requires { Region s.now × Stretch s.now rest.now k m × (record_count s.now ≤ length to.old) }
     ensures { to.new
@@ -158,6 +170,7 @@ fn name_all(s: &[i16], v: usize, rest: &[usize], k: usize, m: usize, to: &mut [u
 
 // The walk that started at w comes to p: where it has departed from p, what it has walked since is a cycle. How many of
 // the m records are left.
+#[tactic(auto, using(crate::proofs::Sets::for_cut_at))]
 fn cut_at(
     s: &[i16],
     p: Point,
@@ -183,6 +196,7 @@ fn cut_at(
 }
 
 // The walk that starts at w, cut wherever it returns to a point.
+#[tactic(auto, using(crate::proofs::CuttingLaws::cutting))]
 fn cut_walk(s: &[i16], w: usize, starts: &mut [usize], firsts: &mut [usize])
     requires region { Region s.now × (w < record_count s.now) }
     requires s_in_bounds { (record_count s.now ≤ length starts.old) × (record_count s.now ≤ length firsts.old) }
@@ -210,6 +224,7 @@ fn cut_walk(s: &[i16], w: usize, starts: &mut [usize], firsts: &mut [usize])
 }
 
 // Record i is next: a record that departs and has no start yet is the least of its walk, which is cut.
+#[tactic(auto, using(crate::proofs::Sets::for_cut_from))]
 fn cut_from(s: &[i16], i: usize, starts: &mut [usize], firsts: &mut [usize])
     requires region { Region s.now × (i < record_count s.now) }
     requires s_in_bounds { (record_count s.now ≤ length starts.old) × (record_count s.now ≤ length firsts.old) }
@@ -227,6 +242,7 @@ fn cut_from(s: &[i16], i: usize, starts: &mut [usize], firsts: &mut [usize])
 }
 
 // Each walk in turn.
+#[tactic(auto, using(crate::proofs::Sets::for_cut_walks))]
 fn cut_walks(s: &[i16], starts: &mut [usize], firsts: &mut [usize])
     requires region { Region s.now × Unset (record_count s.now) starts.old }
     requires s_in_bounds { record_count s.now ≤ length firsts.old }
@@ -244,6 +260,7 @@ fn cut_walks(s: &[i16], starts: &mut [usize], firsts: &mut [usize])
 // ---- all walks
 
 // The first n places get the number v.
+#[tactic(auto, using(crate::proofs::Sets::for_fill))]
 fn fill(v: usize, n: usize, to: &mut [usize])
     requires { n ≤ length to.old }
     ensures { to.new ≡ listed (λ i. v) 0 n ++ drop n to.old }
@@ -256,6 +273,7 @@ fn fill(v: usize, n: usize, to: &mut [usize])
 }
 
 // The walks of a chart, cut: for a record that is not there, and for a chart that is refused, 0.
+#[tactic(auto, using(crate::proofs::Sets::for_cycles_of))]
 pub fn cycles_of(chart: &[i16]) -> Cycles
     ensures { Circled chart.now result }
 {

@@ -21,7 +21,7 @@ pub(crate) const ROW_BELOW: usize = 7;
 const WORDS: [u8; 72] =
     *b"  Outside   Inside     Edge   area2  records  refusal      row     row -";
 
-#[derive(Drop)]
+#[derive(Clone, Copy)]
 pub(crate) struct Answer {
     pub(crate) kind: usize,
     pub(crate) number: u64,

@@ -1,5 +1,7 @@
 // Document 01's bench examples, run: a line each, what is asked and the answer. The gate compares the lines with the
 // file stdout. (Every refusal, at every record and two at once, is the judge's to ask: rust/judge.)
+#![tactic(auto)]
+
 ghost use Rattle.std.specs.Prelude.{◌<◌};
 
 mod answer;

@@ -11,3 +11,4 @@ pub mod OutcomeLaws
 pub mod CycleListLaws
 pub mod OrderLaws
 pub mod AnyCutLaws
+pub mod Sets

@@ -1,5 +1,7 @@
 // The list of faces and holes of a chart (document 01, "Faces, holes and area"), written into two lent arrays. What the
 // walks of a chart come to is the crate cycles; what cycles and faces are, the crate walks.
+#![tactic(auto)]
+
 ghost use Rattle.std.specs.Prelude.{◌≡◌, true, ◌&&◌, ◌++◌, ◌+◌, ◌*◌, ◌≤◌, ◌<◌, eqb, length, drop};
 ghost use Rattle.counts.specs.Count.{count, places};
 ghost use Rattle.record.specs.Records.{record_count};
@@ -13,7 +15,7 @@ use cycles::cycles_of;
 use record::{MARKED, WIDTH, record_at};
 
 // What is answered: how many cycles were listed and how many faces they bound, or why none were.
-#[derive(Drop)]
+#[derive(Clone, Copy)]
 pub enum FaceList {
     Listed { cycles: usize, faces: usize },
     Refused(Refusal),
@@ -22,6 +24,7 @@ pub enum FaceList {
 // ---- cycles
 
 // How many of the first n records are the first of their cycle.
+#[tactic(auto, using(counts::proofs::LoopLaws::counted_none, crate::proofs::Sets::for_count_firsts))]
 fn count_firsts(s: &[i16], starts: &[usize], firsts: &[usize], n: usize) -> usize
     requires { Known s.now starts.now firsts.now × (n ≤ record_count s.now) }
     ensures { Numbered s.now (count (is_first s.now) (places n)) result }
@@ -42,6 +45,7 @@ fn count_firsts(s: &[i16], starts: &[usize], firsts: &[usize], n: usize) -> usiz
 
 // Whether record i is the first of an outer cycle: the first record of a cycle has mark 1 exactly if the cycle is
 // outer.
+#[tactic(auto, using(crate::proofs::Sets::for_is_first_outer), unfolding(grid::specs::Coordinates::up))]
 fn is_first_outer(s: &[i16], starts: &[usize], firsts: &[usize], i: usize) -> bool
     requires { Known s.now starts.now firsts.now × (i < record_count s.now) }
     ensures { result ≡ first_outer s.now i }
@@ -52,6 +56,7 @@ fn is_first_outer(s: &[i16], starts: &[usize], firsts: &[usize], i: usize) -> bo
 }
 
 // How many of the first n records are the first of an outer cycle.
+#[tactic(auto, using(counts::proofs::StepLaws::summing, crate::proofs::Sets::for_count_outers))]
 fn count_outers(s: &[i16], starts: &[usize], firsts: &[usize], n: usize) -> usize
     requires { Known s.now starts.now firsts.now × (n ≤ record_count s.now) }
     ensures { Numbered s.now (face_number s.now n) result }
@@ -68,6 +73,7 @@ fn count_outers(s: &[i16], starts: &[usize], firsts: &[usize], n: usize) -> usiz
 }
 
 // Whether record i is the first of an outer cycle of the walk that starts at w.
+#[tactic(auto, using(crate::proofs::Sets::for_is_outer_in))]
 fn is_outer_in(s: &[i16], starts: &[usize], firsts: &[usize], w: usize, i: usize) -> bool
     requires { Known s.now starts.now firsts.now × (i < record_count s.now) }
     ensures { result ≡ first_outer s.now i && eqb (start_of s.now i) w }
@@ -77,6 +83,7 @@ fn is_outer_in(s: &[i16], starts: &[usize], firsts: &[usize], w: usize, i: usize
 }
 
 // The first record of the outer cycle of the walk that starts at w; the number of records where it has none.
+#[tactic(auto, using(counts::proofs::StepLaws::looking, crate::proofs::Sets::for_outer_in))]
 fn outer_in(s: &[i16], starts: &[usize], firsts: &[usize], w: usize) -> usize
     requires { Known s.now starts.now firsts.now }
     ensures { Numbered s.now (outer_in s.now w) result }
@@ -94,6 +101,7 @@ fn outer_in(s: &[i16], starts: &[usize], firsts: &[usize], w: usize) -> usize
 
 // The face of the walk that starts at w: that of its outer cycle; else that of the walk of the segment nearest below
 // its smallest point, which starts earlier.
+#[tactic(auto, using(crate::proofs::Sets::for_face_in_walk))]
 fn face_in_walk(s: &[i16], starts: &[usize], firsts: &[usize], faces: &[usize], w: usize) -> usize
     requires known { Known s.now starts.now firsts.now × WalkFaces s.now w faces.now }
     requires w_bound { (w < record_count s.now) × (start_of s.now w ≡ w) }
@@ -110,6 +118,7 @@ fn face_in_walk(s: &[i16], starts: &[usize], firsts: &[usize], faces: &[usize], 
     faces[v]
 }
 
+#[tactic(auto, using(crate::proofs::FillLaws::fill_none, crate::proofs::FillLaws::fill_start, crate::proofs::Sets::for_fill_faces))]
 fn fill_faces(s: &[i16], starts: &[usize], firsts: &[usize], faces: &mut [usize])
     requires { Known s.now starts.now firsts.now × (record_count s.now ≤ length faces.old) }
     ensures { WalkFaces s.now (record_count s.now) faces.new }
@@ -128,6 +137,7 @@ fn fill_faces(s: &[i16], starts: &[usize], firsts: &[usize], faces: &mut [usize]
 
 // ---- writing
 
+#[tactic(auto, using(crate::proofs::Sets::for_write_labels))]
 fn write_labels(s: &[i16], starts: &[usize], firsts: &[usize], labels: &mut [u16])
     requires { Known s.now starts.now firsts.now × (record_count s.now ≤ length labels.old) }
     ensures { labels.new
@@ -144,6 +154,7 @@ fn write_labels(s: &[i16], starts: &[usize], firsts: &[usize], labels: &mut [u16
 }
 
 // 0 for an outer cycle or 1 for a hole, by its first record.
+#[tactic(auto, using(crate::proofs::Sets::for_kind_of))]
 fn kind_of(s: &[i16], starts: &[usize], firsts: &[usize], i: usize) -> u16
     requires known { Known s.now starts.now firsts.now × (i < record_count s.now) }
     requires i_value { is_first s.now i ≡ true }
@@ -156,6 +167,7 @@ fn kind_of(s: &[i16], starts: &[usize], firsts: &[usize], i: usize) -> u16
 }
 
 // The face of the cycle of record i: that of its walk.
+#[tactic(auto, using(crate::proofs::FillLaws::cycle_start, crate::proofs::Sets::for_face_of))]
 fn face_of(s: &[i16], starts: &[usize], firsts: &[usize], faces: &[usize], i: usize) -> usize
     requires known { Known s.now starts.now firsts.now × WalkFaces s.now (record_count s.now) faces.now }
     requires i_bound { i < record_count s.now }
@@ -166,6 +178,7 @@ fn face_of(s: &[i16], starts: &[usize], firsts: &[usize], faces: &[usize], i: us
 }
 
 // The two numbers of the cycle whose first record is i become those of cycle m of the array.
+#[tactic(auto, using(crate::proofs::Sets::for_put_cycle))]
 fn put_cycle(
     s: &[i16],
     starts: &[usize],
@@ -185,6 +198,7 @@ fn put_cycle(
     cycles[2 * m + 1] = face as u16;
 }
 
+#[tactic(auto, using(crate::proofs::EntryLaws::entered_all, crate::proofs::Sets::for_write_cycles))]
 fn write_cycles(s: &[i16], starts: &[usize], firsts: &[usize], faces: &[usize], cycles: &mut [u16])
     requires known { Known s.now starts.now firsts.now × WalkFaces s.now (record_count s.now) faces.now }
     requires s_in_bounds { 2 * cycle_count s.now ≤ length cycles.old }
@@ -216,6 +230,7 @@ fn too_short() -> FaceList
 }
 
 // Of a chart that is accepted. Nothing is written before it is known that all of it can be.
+#[tactic(auto, using(crate::proofs::Sets::for_list_sound))]
 fn list_sound(
     s: &[i16],
     starts: &[usize],
@@ -247,6 +262,7 @@ fn list_sound(
 
 // The faces and holes of a chart: the cycle number of each record into the first array, two numbers per cycle into the
 // second.
+#[tactic(auto, using(crate::proofs::Sets::for_faces))]
 pub fn faces(chart: &[i16], labels: &mut [u16], cycles: &mut [u16]) -> FaceList
     ensures { Lists chart.now labels.old cycles.old
         labels.new cycles.new result }

@@ -1,5 +1,7 @@
 // The chart file (document 01, "The chart file"): bytes from outside, to the numbers of a chart array or a numbered
 // refusal with its place. One number of a file is the crate number.
+#![tactic(auto)]
+
 ghost use Rattle.std.specs.Prelude.{◌≡◌, true, ◌*◌, ◌≤◌, length};
 ghost use Rattle.record.specs.Records.{width};
 ghost use Rattle.chart.specs.Verdicts.{limit};
@@ -14,21 +16,21 @@ use number::Number;
 use record::WIDTH;
 
 // What a file gives: how many records were read into the lent array, or why none were.
-#[derive(Drop)]
+#[derive(Clone, Copy)]
 pub enum Answer {
     Records(usize),
     Refused(Refusal),
 }
 
 // One number for the array, and the place of the next one in the file.
-#[derive(Drop)]
+#[derive(Clone, Copy)]
 enum Field {
     Value { value: i16, next: usize },
     Refused(Refusal),
 }
 
 // Where the numbers of a file end.
-#[derive(Drop)]
+#[derive(Clone, Copy)]
 enum End {
     At(usize),
     Refused(Refusal),
@@ -51,6 +53,7 @@ fn unfit(at: usize) -> Field
     })
 }
 
+#[tactic(auto, using(crate::proofs::FieldLaws::fielding))]
 fn coordinate_of(n: u32, at: usize, next: usize) -> Field
     ensures { result ≡ coordinate n at next }
 {
@@ -61,6 +64,7 @@ fn coordinate_of(n: u32, at: usize, next: usize) -> Field
     }
 }
 
+#[tactic(auto, using(crate::proofs::FieldLaws::fielding))]
 fn mark_of(n: u32, at: usize, next: usize) -> Field
     ensures { result ≡ mark n at next }
 {
@@ -74,6 +78,7 @@ fn mark_of(n: u32, at: usize, next: usize) -> Field
 }
 
 // What the number n of the file is at the place k of the array.
+#[tactic(auto, using(crate::proofs::FieldLaws::fielding))]
 fn field_of(k: usize, n: u32, at: usize, next: usize) -> Field
     ensures { result ≡ field k n at next }
 {
@@ -83,6 +88,7 @@ fn field_of(k: usize, n: u32, at: usize, next: usize) -> Field
     coordinate_of(n, at, next)
 }
 
+#[tactic(auto, using(crate::proofs::FieldLaws::fielding))]
 fn field_at(bytes: &[u8], k: usize, at: usize) -> Field
     ensures { result ≡ field_at bytes.now k at }
 {
@@ -96,6 +102,7 @@ fn field_at(bytes: &[u8], k: usize, at: usize) -> Field
 // ---- the numbers of the records: a first pass that writes nothing, and a second that refuses nothing
 
 // Where m numbers from the place `from` on end, or the first refusal among them.
+#[tactic(auto, using(crate::proofs::PassLaws::passing))]
 fn end_of(bytes: &[u8], m: usize, from: usize) -> End
     ensures { result ≡ end_of (fields bytes.now 0 m from) }
 {
@@ -113,6 +120,7 @@ fn end_of(bytes: &[u8], m: usize, from: usize) -> End
 }
 
 // Writes m numbers from the place `from` on into the array; the first pass has seen that they can all be taken.
+#[tactic(auto, using(crate::proofs::PassLaws::filling))]
 fn fill(bytes: &[u8], m: usize, from: usize, out: &mut [i16])
     requires { (m ≤ length out.old) × (is_taken (fields bytes.now 0 m from) ≡ true) }
     ensures { out.new ≡ contents (fields bytes.now 0 m from) out.old }
@@ -144,6 +152,7 @@ fn refused(number: u16, place: usize) -> Answer
 }
 
 // The n records from the place `from` on, and nothing after them.
+#[tactic(auto, using(crate::proofs::FileLaws::reading))]
 fn read_records(bytes: &[u8], n: usize, from: usize, out: &mut [i16]) -> Answer
     requires { (n ≤ limit) × (width * n ≤ length out.old) }
     ensures { Gives (records_of bytes.now n from) out.old out.new result }
@@ -163,6 +172,7 @@ fn read_records(bytes: &[u8], n: usize, from: usize, out: &mut [i16]) -> Answer
 }
 
 // Reads a chart file into the lent array. Judges the file's form only, not the chart.
+#[tactic(auto, using(crate::proofs::FileLaws::reading))]
 pub fn read(bytes: &[u8], out: &mut [i16]) -> Answer
     ensures { Reads bytes.now out.old out.new result }
 {

@@ -6,3 +6,4 @@ pub mod CardLaws
 pub mod PressureLaws
 pub mod ReadingLaws
 pub mod RuleLaws
+pub mod Sets

@@ -1,4 +1,6 @@
 // Gauges (document 01, "Gauges"): a card and a sample, to the exact pressure and its grid row, or a numbered refusal.
+#![tactic(auto)]
+
 ghost use Rattle.std.specs.Prelude.{◌≡◌, ◌<◌, true, ◌||◌, pos, ◌-ℤ◌, ◌*ℤ◌, int_le, int_lt};
 ghost use Rattle.counts.specs.Scan.{Found};
 ghost use Rattle.grid.specs.Coordinates.{on_grid};
@@ -8,21 +10,21 @@ ghost use Rattle.gauge.specs.Readings.{pressure, row, at_pin, refused_by, Gauges
 ghost use Rattle.gauge.specs.Steps.{Counts, Whole};
 
 // A gauge card.
-#[derive(Drop)]
+#[derive(Clone, Copy)]
 pub enum Card {
     Spring { rate: f64, pin: f64 },
     Bridge { gain: f64, zero: f64 },
 }
 
 // A pressure, and the grid row it lies on.
-#[derive(Drop)]
+#[derive(Clone, Copy)]
 pub struct Reading {
     pub pressure: f64,
     pub row: i16,
 }
 
 // What a sample gives: document 01's refusal, 0 for none, and the reading, zero and row 0 where refused.
-#[derive(Drop)]
+#[derive(Clone, Copy)]
 pub struct Gauged {
     pub refusal: u16,
     pub reading: Reading,
@@ -34,7 +36,7 @@ const POWERS: u64 = 17;
 // ---- a float in 256ths
 
 // A float as a whole number of 256ths, where it is one: `count` of them. Elsewhere the count is 0.
-#[derive(Drop)]
+#[derive(Clone, Copy)]
 struct Units {
     whole: bool,
     count: i64,
@@ -42,6 +44,7 @@ struct Units {
 
 // A multiple of 1/256 from -65,536 to 65,536, in 256ths. A NaN fails both comparisons. Times 256 is exact, and the
 // whole part, as a float again, is that product only where nothing was cut off.
+#[tactic(auto, using(crate::proofs::RangeLaws::within, crate::proofs::RangeLaws::beyond, crate::proofs::CutLaws::castable, crate::proofs::CutLaws::counted, crate::proofs::CutLaws::left_over, crate::proofs::CutLaws::uncounted))]
 fn units_of(x: f64) -> Units
     ensures { Counts x result }
 {
@@ -67,6 +70,7 @@ fn is_power(n: u64, k: u64) -> bool
     n == (1 << k)
 }
 
+#[tactic(auto, using(counts::proofs::StepLaws::looking))]
 fn first_power(n: u64) -> u64
     ensures { Found (is_power n) (λ k. k) 0 powers result }
 {
@@ -81,6 +85,7 @@ fn first_power(n: u64) -> u64
 }
 
 // Whether it may be a rate or a gain.
+#[tactic(auto, using(crate::proofs::Sets::for_is_factor))]
 fn is_factor(x: f64) -> bool
     ensures { result ≡ is_factor x }
 {
@@ -91,6 +96,7 @@ fn is_factor(x: f64) -> bool
     u.whole & (first_power(u.count as u64) < POWERS)
 }
 
+#[tactic(auto, using(crate::proofs::Sets::for_is_pin))]
 fn is_pin(x: f64) -> bool
     ensures { result ≡ is_pin x }
 {
@@ -105,6 +111,7 @@ fn is_zero(x: f64) -> bool
     u.whole
 }
 
+#[tactic(auto, unfolding(crate::specs::Cards::sound))]
 fn is_sound(card: Card) -> bool
     ensures { result ≡ sound card }
 {
@@ -116,6 +123,7 @@ fn is_sound(card: Card) -> bool
 
 // ---- the pressure, by the floats' own operations, which are exact here
 
+#[tactic(auto, using(crate::proofs::Sets::for_product))]
 fn product(sample: i16, factor: f64) -> f64
     requires { is_factor factor ≡ true }
     ensures { Exactly result (sample *ℤ units factor) }
@@ -123,6 +131,7 @@ fn product(sample: i16, factor: f64) -> f64
     (sample as f64) * factor
 }
 
+#[tactic(auto, using(crate::proofs::PressureLaws::product_small, crate::proofs::Sets::for_difference))]
 fn difference(sample: i16, gain: f64, zero: f64) -> f64
     requires { (is_factor gain ≡ true) × (is_zero zero ≡ true) }
     ensures { Exactly result (sample *ℤ units gain -ℤ units zero) }
@@ -130,6 +139,7 @@ fn difference(sample: i16, gain: f64, zero: f64) -> f64
     product(sample, gain) - zero
 }
 
+#[tactic(auto, using(crate::proofs::Sets::for_pressure_of), unfolding(crate::specs::Readings::pressure))]
 fn pressure_of(card: Card, sample: i16) -> f64
     requires { sound card ≡ true }
     ensures { Exactly result (pressure card sample) }
@@ -142,6 +152,7 @@ fn pressure_of(card: Card, sample: i16) -> f64
 
 // ---- 22: at the pin
 
+#[tactic(auto, using(crate::proofs::CardLaws::from_is, crate::proofs::Sets::for_is_past))]
 fn is_past(sample: i16, p: f64, pin: f64) -> bool
     requires { Exactly p (units p) × (is_pin pin ≡ true) }
     ensures { result ≡ (int_lt sample (pos 0) || int_le (units pin) (units p)) }
@@ -149,6 +160,7 @@ fn is_past(sample: i16, p: f64, pin: f64) -> bool
     (sample < 0) | (p >= pin)
 }
 
+#[tactic(auto, using(crate::proofs::Sets::for_is_at_pin))]
 fn is_at_pin(card: Card, sample: i16, p: f64) -> bool
     requires { (sound card ≡ true) × Exactly p (pressure card sample) }
     ensures { result ≡ at_pin card sample }
@@ -162,6 +174,7 @@ fn is_at_pin(card: Card, sample: i16, p: f64) -> bool
 // ---- 23: the row would leave the grid
 
 // The row of a pressure, wider than the grid, so that it cannot wrap. The one place that drops a fraction.
+#[tactic(auto, using(crate::proofs::ExactLaws::castable, crate::proofs::Sets::for_row_of), unfolding(crate::specs::Readings::row))]
 fn row_of(p: f64) -> i64
     requires { Whole p }
     ensures { result ≡ row (units p) }
@@ -190,6 +203,7 @@ fn refused(number: u16) -> Gauged
 }
 
 // A sample by a sound card.
+#[tactic(auto, using(crate::proofs::ReadingLaws::return_read, crate::proofs::Sets::for_read_sound))]
 fn read_sound(card: Card, sample: i16) -> Gauged
     requires { sound card ≡ true }
     ensures { Gauges card sample result }
@@ -214,6 +228,7 @@ fn read_sound(card: Card, sample: i16) -> Gauged
 }
 
 // Turns a sample into a pressure and a grid row.
+#[tactic(auto, using(crate::proofs::Sets::for_read_sample))]
 pub fn read_sample(card: Card, sample: i16) -> Gauged
     ensures { Gauges card sample result }
 {

@@ -2,3 +2,4 @@ pub mod CoordinateLaws
 pub mod SignedLaws
 pub mod CastLaws
 pub mod TurnedLaws
+pub mod Sets

@@ -1,17 +1,19 @@
 // The grid: the coordinate type, its count from the grid's lower end and the way back.
+#![tactic(auto)]
+
 ghost use Rattle.std.specs.Prelude.{◌≡◌};
 ghost use Rattle.grid.specs.Coordinates.{least, greatest, coord_of, located, up, down, point_of};
 
 use plane::Point;
 
 // A coordinate: a signed sixteen-bit number. The grid's own ends belong to it.
-#[derive(Drop)]
+#[derive(Clone, Copy)]
 pub struct Coord {
     pub v: i16,
 }
 
 // What a wider number is to the grid.
-#[derive(Drop)]
+#[derive(Clone, Copy)]
 pub enum Located {
     On(Coord),
     Off,
@@ -43,6 +45,7 @@ impl Coord {
     }
 
     // The coordinate of a wider number, or that it is off the grid.
+    #[tactic(auto, using(crate::proofs::CoordinateLaws::on_fits, crate::proofs::Sets::for_Coord_of_wide))]
     pub fn of_wide(v: i64) -> Located
         ensures { result ≡ located v }
     {
@@ -72,12 +75,14 @@ impl Coord {
 }
 
 // The sum fits 32 bits and the count 16, whatever the number: `up_small`.
+#[tactic(auto, using(crate::proofs::CoordinateLaws::up_small, crate::proofs::CastLaws::sum_fits, crate::proofs::Sets::for_count_of))]
 pub fn count_of(v: i16) -> u16
     ensures { result ≡ up v }
 {
     (v as i32 + 32768) as u16
 }
 
+#[tactic(auto, using(crate::proofs::CastLaws::number_is, crate::proofs::Sets::for_number_at))]
 pub fn number_at(n: u16) -> i16
     ensures { result ≡ down n }
 {

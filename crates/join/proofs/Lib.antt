@@ -7,3 +7,4 @@ pub mod WriteLaws
 pub mod MarkLaws
 pub mod JoinLaws
 pub mod OutcomeLaws
+pub mod Sets

@@ -1,6 +1,8 @@
 // Joining two charts (document 01, "Joining two charts"): union, intersection and difference, written into a lent
 // array. What is kept of each chart is the crate sides; what charts combined are, and that the result is again a chart
 // which answers as the two do, the crate combined.
+#![tactic(auto)]
+
 ghost use Rattle.std.specs.Prelude.{◌≡◌, ◌+◌, ◌*◌, ◌≤◌, length};
 ghost use Rattle.counts.specs.Scan.{Found, Counted};
 ghost use Rattle.record.specs.Records.{width, record_at};
@@ -18,7 +20,7 @@ use sides::{Op, is_kept_first, is_kept_second, marked_afresh};
 
 // What joining gives: how many records were written, or why none were and which chart, the first or the second, is to
 // blame; 0 where neither is by itself.
-#[derive(Drop)]
+#[derive(Clone, Copy)]
 pub enum Joined {
     Records(usize),
     Refused { chart: u8, refusal: Refusal },
@@ -26,6 +28,7 @@ pub enum Joined {
 
 // ---- how many
 
+#[tactic(auto, using(counts::proofs::StepLaws::summing))]
 fn count_first(op: Op, a: &[i16], b: &[i16], n: usize) -> usize
     ensures { Counted (kept_first op a.now b.now) (record_at a.now) n result }
 {
@@ -41,6 +44,7 @@ fn count_first(op: Op, a: &[i16], b: &[i16], n: usize) -> usize
     m
 }
 
+#[tactic(auto, using(counts::proofs::StepLaws::summing))]
 fn count_second(op: Op, a: &[i16], b: &[i16], n: usize) -> usize
     ensures { Counted (kept_second op a.now b.now) (record_at b.now) n result }
 {
@@ -57,6 +61,7 @@ fn count_second(op: Op, a: &[i16], b: &[i16], n: usize) -> usize
 }
 
 // How many records the result has.
+#[tactic(auto, using(crate::proofs::Sets::for_result_size))]
 fn result_size(op: Op, a: &[i16], b: &[i16]) -> usize
     ensures { Sized op a.now b.now result }
 {
@@ -68,6 +73,7 @@ fn result_size(op: Op, a: &[i16], b: &[i16]) -> usize
 // ---- writing
 
 // The record becomes record n of the array.
+#[tactic(auto, using(crate::proofs::Sets::for_put))]
 fn put(r: Record, out: &mut [i16], n: usize)
     requires { width * n + width ≤ length out.old }
     ensures { out.new ≡ with_record out.old n r }
@@ -81,6 +87,7 @@ fn put(r: Record, out: &mut [i16], n: usize)
 }
 
 // Record i of the first chart is next: it becomes record n of the array where it is kept. The number of records then.
+#[tactic(auto, using(crate::proofs::StepLaws::taking))]
 fn take_first(op: Op, a: &[i16], b: &[i16], i: usize, out: &mut [i16], n: usize) -> usize
     requires { Room (kept_first op a.now b.now) (record_at a.now i) out.old n }
     ensures { TookFirst op a.now b.now i out.old n out.new result }
@@ -94,6 +101,7 @@ fn take_first(op: Op, a: &[i16], b: &[i16], i: usize, out: &mut [i16], n: usize)
 }
 
 // The same of record j of the second.
+#[tactic(auto, using(crate::proofs::StepLaws::taking))]
 fn take_second(op: Op, a: &[i16], b: &[i16], j: usize, out: &mut [i16], n: usize) -> usize
     requires { Room (kept_second op a.now b.now) (record_at b.now j) out.old n }
     ensures { TookSecond op a.now b.now j out.old n out.new result }
@@ -107,6 +115,7 @@ fn take_second(op: Op, a: &[i16], b: &[i16], j: usize, out: &mut [i16], n: usize
 }
 
 // Both charts at once, always on at the smaller head.
+#[tactic(auto, using(crate::proofs::WriteLaws::left, crate::proofs::WriteLaws::writing, crate::proofs::Sets::for_write))]
 fn write(op: Op, a: &[i16], b: &[i16], out: &mut [i16])
     requires region { Region a.now × Region b.now }
     requires b_in_bounds { width * length (result_of op a.now b.now) ≤ length out.old }
@@ -135,6 +144,7 @@ fn write(op: Op, a: &[i16], b: &[i16], out: &mut [i16])
 
 // ---- joining
 
+#[tactic(auto, using(crate::proofs::Sets::for_is_touched_in))]
 fn is_touched_in(b: &[i16], r: Record) -> bool
     ensures { result ≡ touches_in b.now r }
 {
@@ -142,6 +152,7 @@ fn is_touched_in(b: &[i16], r: Record) -> bool
 }
 
 // The first of n records of the first chart whose segment touches one of the second.
+#[tactic(auto, using(counts::proofs::StepLaws::looking))]
 fn first_touching(a: &[i16], b: &[i16], n: usize) -> usize
     ensures { Found (touches_in b.now) (record_at a.now) 0 n result }
 {
@@ -166,6 +177,7 @@ fn refused(number: u16, index: usize) -> Joined
 }
 
 // Two charts that are accepted. Nothing is written before it is known that all of it can be.
+#[tactic(auto, using(crate::proofs::JoinLaws::outcomes))]
 fn combine_sound(op: Op, a: &[i16], b: &[i16], out: &mut [i16]) -> Joined
     requires { Region a.now × Region b.now }
     ensures { SoundJoins op a.now b.now out.old out.new result }
@@ -188,6 +200,7 @@ fn combine_sound(op: Op, a: &[i16], b: &[i16], out: &mut [i16]) -> Joined
 }
 
 // Joins two charts into the lent array, or says why not.
+#[tactic(auto, using(crate::proofs::JoinLaws::outcomes))]
 pub fn combine(op: Op, a: &[i16], b: &[i16], out: &mut [i16]) -> Joined
     ensures { Joins op a.now b.now out.old out.new result }
 {

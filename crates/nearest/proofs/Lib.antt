@@ -3,3 +3,4 @@ pub mod TopsLaws
 pub mod PassLaws
 pub mod ByMarkLaws
 pub mod RefusalLaws
+pub mod Sets

@@ -1,5 +1,7 @@
 // The segment nearest below a point of a chart, and where the point lies by that segment's mark alone. Each judges the
 // chart first and hands a refusal on; callers check nothing.
+#![tactic(auto)]
+
 ghost use Rattle.std.specs.Prelude.{◌≡◌};
 ghost use Rattle.counts.specs.Count.{odd};
 ghost use Rattle.counts.specs.Scan.{Found};
@@ -16,7 +18,7 @@ use plane::{Point, Segment};
 use question::{Place, place_by};
 use record::{MARKED, Record, WIDTH, record_at};
 
-#[derive(Drop)]
+#[derive(Clone, Copy)]
 pub enum Nearest {
     Nothing,
     At(usize),
@@ -26,12 +28,14 @@ pub enum Nearest {
 // ---- the nearest below
 
 // Whether e is counted below p and is higher there than t.
+#[tactic(auto, using(crate::proofs::Sets::for_is_higher_below))]
 fn is_higher_below(p: Point, t: Segment, e: Record) -> bool
     ensures { result ≡ higher_below p t e }
 {
     question::is_below(p, e) && segment::is_higher(p.x, segment::segment_of(e), t)
 }
 
+#[tactic(auto, using(counts::proofs::StepLaws::looking))]
 fn first_below(s: &[i16], n: usize, p: Point) -> usize
     ensures { Found (counted p) (record_at s.now) 0 n result }
 {
@@ -48,6 +52,7 @@ fn first_below(s: &[i16], n: usize, p: Point) -> usize
 
 // The first of the highest below p, the number of records where there is none. Each is compared with the highest so far
 // alone: in a sound chart, where which of two is higher is an order, that is the first that is nearest.
+#[tactic(auto, using(crate::proofs::Sets::for_highest_below))]
 pub fn highest_below(s: &[i16], p: Point) -> usize
     ensures { Highest s.now p result }
 {
@@ -65,6 +70,7 @@ pub fn highest_below(s: &[i16], p: Point) -> usize
     top
 }
 
+#[tactic(auto, using(crate::proofs::Sets::for_nearest_of))]
 fn nearest_of(s: &[i16], p: Point) -> Nearest
     requires { Sound (records s.now) }
     ensures { result ≡ nearest_of s.now (record_count s.now) p }
@@ -78,6 +84,7 @@ fn nearest_of(s: &[i16], p: Point) -> Nearest
 }
 
 // The index of the record whose segment is the nearest straight below a point.
+#[tactic(auto, using(crate::proofs::Sets::for_nearest_below))]
 pub fn nearest_below(chart: &[i16], x: i16, y: i16) -> Nearest
     ensures { result ≡ nearest_below chart.now (point_of x y) }
 {
@@ -92,6 +99,7 @@ pub fn nearest_below(chart: &[i16], x: i16, y: i16) -> Nearest
 // ---- where a point lies, by the mark of the nearest below
 
 // What `is_odd_below` answers, without the count.
+#[tactic(auto, using(crate::proofs::Sets::for_is_marked_below), unfolding(grid::specs::Coordinates::up))]
 fn is_marked_below(s: &[i16], p: Point) -> bool
     requires { Sound (records s.now) }
     ensures { result ≡ odd (below (records s.now) p) }
@@ -106,6 +114,7 @@ fn is_marked_below(s: &[i16], p: Point) -> bool
 }
 
 // What `point` answers, told by the side mark of the nearest boundary below alone.
+#[tactic(auto, using(crate::proofs::Sets::for_inside_by_mark))]
 pub fn inside_by_mark(chart: &[i16], x: i16, y: i16) -> Place
     ensures { result ≡ placed chart.now (point_of x y) }
 {

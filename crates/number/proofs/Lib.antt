@@ -2,3 +2,4 @@ pub mod NumberLaws
 pub mod GroupLaws
 pub mod SignedLaws
 pub mod SizeLaws
+pub mod Sets

@@ -1,4 +1,6 @@
 // One number of a chart file: groups of seven bits, lowest first, a byte each.
+#![tactic(auto)]
+
 ghost use Rattle.std.specs.Prelude.{◌≡◌, ◌+◌, ◌≤◌, ◌<◌, length, drop};
 ghost use Rattle.number.specs.Numbers.{refused, bits, number_at, signed};
 ghost use Rattle.number.specs.Groups.{last_group, third_group, second_group};
@@ -6,7 +8,7 @@ ghost use Rattle.number.specs.Groups.{last_group, third_group, second_group};
 use chart::Refusal;
 
 // A number and the place after it, or why there is none.
-#[derive(Drop)]
+#[derive(Clone, Copy)]
 pub enum Number {
     Value { value: u32, next: usize },
     Refused(Refusal),
@@ -31,6 +33,7 @@ fn bits_of(b: u8) -> u32
 }
 
 // A last group after another, and the number that it ends. A zero adds nothing: there is a shorter form.
+#[tactic(auto, using(crate::proofs::GroupLaws::grouping))]
 fn last_group(b: u8, value: u32, at: usize, next: usize) -> Number
     ensures { result ≡ last_group b value at next }
 {
@@ -41,6 +44,7 @@ fn last_group(b: u8, value: u32, at: usize, next: usize) -> Number
 }
 
 // The number at the place `at` whose first two groups give `low`.
+#[tactic(auto, using(crate::proofs::GroupLaws::grouping))]
 fn third_group(bytes: &[u8], low: u32, at: usize) -> Number
     requires { (low < 16384) × (at + 2 ≤ length bytes.now) }
     ensures { result ≡ third_group low (drop (at + 2) bytes.now) at }
@@ -57,6 +61,7 @@ fn third_group(bytes: &[u8], low: u32, at: usize) -> Number
 }
 
 // The number at the place `at` whose first group gives `low`.
+#[tactic(auto, using(crate::proofs::GroupLaws::grouping))]
 fn second_group(bytes: &[u8], low: u32, at: usize) -> Number
     requires { (low < 128) × (at + 1 ≤ length bytes.now) }
     ensures { result ≡ second_group low (drop (at + 1) bytes.now) at }
@@ -73,6 +78,7 @@ fn second_group(bytes: &[u8], low: u32, at: usize) -> Number
 }
 
 // The number at the place `at` of a file.
+#[tactic(auto, using(crate::proofs::GroupLaws::grouping))]
 pub fn take_number(bytes: &[u8], at: usize) -> Number
     ensures { result ≡ number_at bytes.now at }
 {
@@ -90,6 +96,7 @@ pub fn take_number(bytes: &[u8], at: usize) -> Number
 }
 
 // The signed number that n stands for.
+#[tactic(auto, using(crate::proofs::SignedLaws::signed_odd, crate::proofs::Sets::for_signed_of))]
 pub fn signed_of(n: u32) -> i64
     ensures { result ≡ signed n }
 {

@@ -1,4 +1,6 @@
 // Points: the order of two, the turn of three.
+#![tactic(auto)]
+
 ghost use Rattle.std.specs.Prelude.{◌≡◌};
 ghost use Rattle.plane.specs.Points.{before, same};
 ghost use Rattle.plane.specs.Turns.{plus, minus, turns_left, turns_right, straight};
@@ -25,7 +27,7 @@ pub fn is_same(p: Point, q: Point) -> bool
 
 // ---- three points
 
-#[derive(Drop)]
+#[derive(Clone, Copy)]
 pub enum Turn {
     Left,
     Straight,
@@ -33,6 +35,7 @@ pub enum Turn {
 }
 
 // The one place where two coordinates are multiplied: a product reaches 65,535 squared, beyond signed 32 bits, so 64.
+#[tactic(auto, using(crate::proofs::Sets::for_product))]
 pub fn product(a: u16, b: u16) -> u64
     ensures { Product a b result }
 {
@@ -52,6 +55,7 @@ fn minus_of(p: Point, q: Point, r: Point) -> u64
 }
 
 // How the way from p to q turns onto the way from p to r.
+#[tactic(auto, using(crate::proofs::Sets::for_turn_of))]
 pub fn turn_of(p: Point, q: Point, r: Point) -> Turn
     ensures { result ≡ turn_of p q r }
 {
@@ -67,18 +71,21 @@ pub fn turn_of(p: Point, q: Point, r: Point) -> Turn
 }
 
 // The three answers one by one, for callers that ask for a single one.
+#[tactic(auto, unfolding(plane::specs::Turns::turns_left))]
 pub fn turns_left(p: Point, q: Point, r: Point) -> bool
     ensures { result ≡ turns_left p q r }
 {
     minus_of(p, q, r) < plus_of(p, q, r)
 }
 
+#[tactic(auto, unfolding(plane::specs::Turns::turns_right))]
 pub fn turns_right(p: Point, q: Point, r: Point) -> bool
     ensures { result ≡ turns_right p q r }
 {
     plus_of(p, q, r) < minus_of(p, q, r)
 }
 
+#[tactic(auto, unfolding(plane::specs::Turns::straight))]
 pub fn is_straight(p: Point, q: Point, r: Point) -> bool
     ensures { result ≡ straight p q r }
 {

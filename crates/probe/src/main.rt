@@ -7,6 +7,8 @@
 //                         chart is refused
 //     the nearest below   two bytes, lowest first: its record's index; 65,535 where there is none, 65,534 where the
 //                         chart is refused
+#![tactic(auto)]
+
 ghost use Rattle.std.specs.Prelude.{◌+◌, ◌*◌, ◌≤◌, ◌<◌, length};
 
 use nearest::Nearest;

@@ -1,1 +1,2 @@
 // No code: what the library promises, cited in one place. proofs/Demands.antt is the page to open first.
+#![tactic(auto)]

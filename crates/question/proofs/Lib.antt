@@ -1,3 +1,4 @@
 pub mod PlaceLaws
 pub mod CornerLaws
 pub mod RefusalLaws
+pub mod Sets

@@ -1,5 +1,7 @@
 // Questions about a chart: where a point lies, and the run at a corner.
 // Each judges the chart first and hands a refusal on; callers check nothing.
+#![tactic(auto)]
+
 ghost use Rattle.std.specs.Prelude.{◌≡◌};
 ghost use Rattle.counts.specs.Count.{odd};
 ghost use Rattle.counts.specs.Scan.{Found, Counted};
@@ -16,7 +18,7 @@ use parts::Span;
 use plane::Point;
 use record::{Record, WIDTH, record_at};
 
-#[derive(Drop)]
+#[derive(Clone, Copy)]
 pub enum Place {
     Outside,
     Inside,
@@ -26,12 +28,14 @@ pub enum Place {
 
 // ---- where a point lies
 
+#[tactic(auto, using(segment::proofs::StandLaws::standing))]
 fn is_held(p: Point, e: Record) -> bool
     ensures { result ≡ of_segment (holds p) e }
 {
     record::is_left(e) && segment::is_on(p, segment::segment_of(e))
 }
 
+#[tactic(auto, using(counts::proofs::StepLaws::looking))]
 fn first_held(s: &[i16], n: usize, p: Point) -> usize
     ensures { Found (of_segment (holds p)) (record_at s.now) 0 n result }
 {
@@ -47,6 +51,7 @@ fn first_held(s: &[i16], n: usize, p: Point) -> usize
 }
 
 // Whether a segment of the array's records holds p.
+#[tactic(auto, using(crate::proofs::Sets::for_is_edge))]
 pub fn is_edge(s: &[i16], p: Point) -> bool
     ensures { result ≡ held (records s.now) p }
 {
@@ -54,12 +59,14 @@ pub fn is_edge(s: &[i16], p: Point) -> bool
     first_held(s, n, p) < n
 }
 
+#[tactic(auto, using(segment::proofs::StandLaws::standing))]
 pub fn is_below(p: Point, e: Record) -> bool
     ensures { result ≡ counted p e }
 {
     record::is_left(e) && segment::is_below_point(p, segment::segment_of(e))
 }
 
+#[tactic(auto, using(counts::proofs::StepLaws::summing))]
 fn count_below(s: &[i16], n: usize, p: Point) -> usize
     ensures { Counted (counted p) (record_at s.now) n result }
 {
@@ -75,6 +82,7 @@ fn count_below(s: &[i16], n: usize, p: Point) -> usize
     m
 }
 
+#[tactic(auto, using(crate::proofs::Sets::for_is_odd_below))]
 fn is_odd_below(s: &[i16], n: usize, p: Point) -> bool
     ensures { result ≡ odd (below (first_records s.now n) p) }
 {
@@ -82,6 +90,7 @@ fn is_odd_below(s: &[i16], n: usize, p: Point) -> bool
 }
 
 // Edge where a segment holds the point; else by whether an odd number lies below it.
+#[tactic(auto, using(crate::proofs::Sets::for_place_by))]
 pub fn place_by(edge: bool, inner: bool) -> Place
     ensures { result ≡ place_by edge inner }
 {
@@ -95,6 +104,7 @@ pub fn place_by(edge: bool, inner: bool) -> Place
 }
 
 // Whether a point lies inside the chart, outside it or on its edge.
+#[tactic(auto, using(crate::proofs::Sets::for_point))]
 pub fn point(chart: &[i16], x: i16, y: i16) -> Place
     ensures { result ≡ placed chart.now (point_of x y) }
 {
@@ -110,6 +120,7 @@ pub fn point(chart: &[i16], x: i16, y: i16) -> Place
 // ---- the run at a corner
 
 // Where the run of records whose dominating end is the point lies; empty where there is none or the chart is refused.
+#[tactic(auto, using(crate::proofs::Sets::for_corner_of))]
 pub fn corner_of(chart: &[i16], x: i16, y: i16) -> Span
     ensures { result ≡ corner_of chart.now (point_of x y) }
 {
@@ -122,6 +133,7 @@ pub fn corner_of(chart: &[i16], x: i16, y: i16) -> Span
 }
 
 // That run, as that very part of the chart.
+#[tactic(auto, using(crate::proofs::Sets::for_corner))]
 pub fn corner(chart: &[i16], x: i16, y: i16) -> &[i16]
     ensures { Corner chart.entry (point_of x y) result }
 {

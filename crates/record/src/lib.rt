@@ -1,5 +1,7 @@
 // A record of a chart, read out of a chart array. The order of two records is in order.rt; the parts of an array that
 // hold records are the crate parts.
+#![tactic(auto)]
+
 ghost use Rattle.std.specs.Prelude.{◌≡◌, ◌+◌, ◌*◌, ◌<◌, pos, get_or};
 ghost use Rattle.record.specs.Records.{width, record_at};
 ghost use Rattle.record.specs.Order.{left, other_half};
@@ -18,7 +20,7 @@ pub const MARKED: u16 = 32769;
 
 // A record: half of a segment, seen from its dominating end. Its numbers are counted from the grid's lower end, the
 // mark too.
-#[derive(Drop)]
+#[derive(Clone, Copy)]
 pub struct Record {
     pub dom: Point,
     pub other: Point,
@@ -47,6 +49,7 @@ fn number_of(s: &[i16], i: usize, k: usize) -> i16
 
 // Record i of any array: what is missing reads as 0. All numbers are read before any is used, so that those of a whole
 // record cost one test together.
+#[tactic(auto, using(crate::proofs::Sets::for_record_at), unfolding(crate::specs::Records::record_at))]
 pub fn record_at(s: &[i16], i: usize) -> Record
     ensures { result ≡ record_at s.now i }
 {

@@ -14,6 +14,7 @@ fn gap_of(m: u16, n: u16) -> u16
     m - n
 }
 
+#[tactic(auto, unfolding(crate::specs::Order::square_length))]
 fn square_length_of(r: Record) -> u64
     ensures { Squared r result }
 {
@@ -23,6 +24,7 @@ fn square_length_of(r: Record) -> u64
 }
 
 // Which of two records of one half at one end leads. Lengths are looked at only in line.
+#[tactic(auto, using(crate::proofs::Sets::for_order_is_leading))]
 fn is_leading(r: Record, e: Record) -> bool
     ensures { result ≡ leads r e }
 {
@@ -34,6 +36,7 @@ fn is_leading(r: Record, e: Record) -> bool
     }
 }
 
+#[tactic(auto, using(crate::proofs::Sets::for_order_is_earlier_here))]
 fn is_earlier_here(r: Record, e: Record) -> bool
     ensures { result ≡ earlier r e }
 {
@@ -44,6 +47,7 @@ fn is_earlier_here(r: Record, e: Record) -> bool
 }
 
 // Whether r comes strictly before e in a chart.
+#[tactic(auto, using(crate::proofs::Sets::for_order_is_earlier))]
 pub fn is_earlier(r: Record, e: Record) -> bool
     ensures { result ≡ precedes r e }
 {

@@ -1,6 +1,8 @@
 // The boundary for C and Rust (include/berzulka.h, rust/): each question of the controller's under a plain name. Each
 // asks the proved function of its crate and packs what that answers into one number. Callers check nothing.
 // A slice is passed as a pointer and a length, in elements.
+#![tactic(auto)]
+
 ghost use Rattle.std.specs.Prelude.{◌≡◌, ◌+◌, ◌*◌, ◌^◌, ◌<◌};
 ghost use Rattle.grid.specs.Coordinates.{point_of};
 ghost use Rattle.parts.specs.Parts.{head_of};
@@ -31,6 +33,7 @@ use sides::Op;
 const UPPER: u64 = 4294967296;
 
 // Bits 0 to 31 a value, index or place; 32 to 47 a refusal's number; 48 to 55 the chart named; 56 to 63 a kind.
+#[tactic(auto, unfolding(crate::specs::Bits::packed))]
 fn pack(value: usize, number: u16, chart: u8, kind: u8) -> u64
     requires { value < 2 ^ 32 }
     ensures { result ≡ packed value number chart kind }
@@ -62,6 +65,7 @@ fn pack_place(a: Place) -> u64
 // ---- questions about a chart
 
 // 0 where the chart is accepted.
+#[tactic(auto, using(crate::proofs::Sets::for_bz_check))]
 #[unsafe(no_mangle)]
 pub extern "C" fn bz_check(chart: &[i16]) -> u64
     ensures { result ≡ check_answer (verdict chart.now) }
@@ -73,6 +77,7 @@ pub extern "C" fn bz_check(chart: &[i16]) -> u64
     }
 }
 
+#[tactic(auto, using(crate::proofs::Sets::for_bz_point))]
 #[unsafe(no_mangle)]
 pub extern "C" fn bz_point(chart: &[i16], x: i16, y: i16) -> u64
     ensures { result ≡ point_answer (placed chart.now (point_of x y)) }
@@ -81,6 +86,7 @@ pub extern "C" fn bz_point(chart: &[i16], x: i16, y: i16) -> u64
 }
 
 // The run's start in the lower half and its length in the upper, in numbers; 0 where it is empty. It gives no refusal.
+#[tactic(auto, using(crate::proofs::Sets::for_bz_corner), unfolding(crate::specs::Answers::corner_answer))]
 #[unsafe(no_mangle)]
 pub extern "C" fn bz_corner(chart: &[i16], x: i16, y: i16) -> u64
     ensures { result ≡ corner_answer (corner_of chart.now (point_of x y)) }
@@ -105,6 +111,7 @@ pub extern "C" fn bz_head(a: &[i16], b: &[i16]) -> u64
 }
 
 // Twice the area goes to `out`, which stays as it is where the chart is refused.
+#[tactic(auto, using(crate::proofs::AnswerLaws::area_small, crate::proofs::Sets::for_bz_area2))]
 #[unsafe(no_mangle)]
 pub extern "C" fn bz_area2(chart: &[i16], out: &mut i64) -> u64
     ensures value { result ≡ area_answer (area_of chart.now) }
@@ -135,6 +142,7 @@ fn pack_faces(a: FaceList) -> u64
 
 // The cycle number of each record goes to `labels`, two numbers per cycle to `cycles`; both stay as they are where the
 // chart or the arrays are refused.
+#[tactic(auto, using(crate::proofs::Sets::for_bz_faces))]
 #[unsafe(no_mangle)]
 pub extern "C" fn bz_faces(chart: &[i16], labels: &mut [u16], cycles: &mut [u16]) -> u64
     ensures { FacesListed chart.now labels.old cycles.old
@@ -157,6 +165,7 @@ fn pack_joined(j: Joined) -> u64
 }
 
 // The result goes to `out`, which stays as it is where joining is refused; so it is of the two after it.
+#[tactic(auto, using(crate::proofs::Sets::for_bz_union))]
 #[unsafe(no_mangle)]
 pub extern "C" fn bz_union(a: &[i16], b: &[i16], out: &mut [i16]) -> u64
     ensures { Combines Union a.now b.now out.old out.new result }
@@ -164,6 +173,7 @@ pub extern "C" fn bz_union(a: &[i16], b: &[i16], out: &mut [i16]) -> u64
     pack_joined(combine(Op::Union, a, b, out))
 }
 
+#[tactic(auto, using(crate::proofs::Sets::for_bz_intersection))]
 #[unsafe(no_mangle)]
 pub extern "C" fn bz_intersection(a: &[i16], b: &[i16], out: &mut [i16]) -> u64
     ensures { Combines Intersection a.now b.now out.old out.new result }
@@ -171,6 +181,7 @@ pub extern "C" fn bz_intersection(a: &[i16], b: &[i16], out: &mut [i16]) -> u64
     pack_joined(combine(Op::Intersection, a, b, out))
 }
 
+#[tactic(auto, using(crate::proofs::Sets::for_bz_difference))]
 #[unsafe(no_mangle)]
 pub extern "C" fn bz_difference(a: &[i16], b: &[i16], out: &mut [i16]) -> u64
     ensures { Combines Difference a.now b.now out.old out.new result }
@@ -181,6 +192,7 @@ pub extern "C" fn bz_difference(a: &[i16], b: &[i16], out: &mut [i16]) -> u64
 // ---- gauges
 
 // What the card of a kind gives: 0 is a spring, of a rate and a pin, and 1 a bridge, of a gain and a zero.
+#[tactic(auto, using(crate::proofs::Sets::for_gauged))]
 fn gauged(kind: u8, first: f64, second: f64, sample: i16) -> Gauged
     ensures { KindGauges kind first second sample result }
 {
@@ -209,6 +221,7 @@ fn gauged(kind: u8, first: f64, second: f64, sample: i16) -> Gauged
 }
 
 // Pressure and row are always written.
+#[tactic(auto, using(crate::proofs::Sets::for_bz_gauge))]
 #[unsafe(no_mangle)]
 pub extern "C" fn bz_gauge(
     kind: u8,
@@ -231,6 +244,7 @@ pub extern "C" fn bz_gauge(
 // ---- files
 
 // How many records were read; `out` stays as it is where the file is refused.
+#[tactic(auto, using(crate::proofs::Sets::for_bz_read))]
 #[unsafe(no_mangle)]
 pub extern "C" fn bz_read(bytes: &[u8], out: &mut [i16]) -> u64
     ensures { FileRead bytes.now out.old out.new result }

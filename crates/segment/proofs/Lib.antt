@@ -1,2 +1,3 @@
 pub mod SegmentLaws
 pub mod StandLaws
+pub mod Sets

@@ -1,5 +1,7 @@
 // A segment: which of a record's ends is its smaller one, and what it is to a point, to a column and to another
 // segment. Every function here is a test on values; the loops over a chart are the crates above.
+#![tactic(auto)]
+
 ghost use Rattle.std.specs.Prelude.{◌≡◌, ◌-◌, ◌*◌, ◌≤◌, eqb};
 ghost use Rattle.plane.specs.Points.{is_segment};
 ghost use Rattle.plane.specs.Turns.{largest_product};
@@ -12,6 +14,7 @@ use record::Record;
 
 // ---- out of a record
 
+#[tactic(auto, unfolding(crate::specs::Segments::segment))]
 pub fn segment_of(r: Record) -> Segment
     ensures { result ≡ segment r }
 {
@@ -23,6 +26,7 @@ pub fn segment_of(r: Record) -> Segment
     Segment { a: o, b: d }
 }
 
+#[tactic(auto, unfolding(crate::specs::Segments::is_record))]
 pub fn is_record(e: Record, r: Record) -> bool
     ensures { result ≡ is_record e r }
 {
@@ -65,6 +69,7 @@ fn is_reaching(x: u16, s: Segment) -> bool
 
 // ---- a point
 
+#[tactic(auto, unfolding(plane::specs::Columns::ends_at))]
 pub fn is_end(p: Point, s: Segment) -> bool
     ensures { result ≡ ends_at p s }
 {
@@ -72,6 +77,7 @@ pub fn is_end(p: Point, s: Segment) -> bool
 }
 
 // Whether p lies inside s, and is none of its ends.
+#[tactic(auto, unfolding(plane::specs::Touching::within))]
 fn is_within(s: Segment, p: Point) -> bool
     ensures { result ≡ within s p }
 {
@@ -79,6 +85,7 @@ fn is_within(s: Segment, p: Point) -> bool
 }
 
 // Whether p lies on s, ends included.
+#[tactic(auto, unfolding(plane::specs::Columns::holds))]
 pub fn is_on(p: Point, s: Segment) -> bool
     ensures { result ≡ holds p s }
 {
@@ -86,6 +93,7 @@ pub fn is_on(p: Point, s: Segment) -> bool
 }
 
 // Whether t lies strictly below p, at the column of p.
+#[tactic(auto, unfolding(plane::specs::Columns::below_point))]
 pub fn is_below_point(p: Point, t: Segment) -> bool
     ensures { result ≡ below_point p t }
 {
@@ -95,6 +103,7 @@ pub fn is_below_point(p: Point, t: Segment) -> bool
 // ---- two segments
 
 // Whether the ends of t lie on different sides of the line of s, and not on it.
+#[tactic(auto, unfolding(plane::specs::Touching::splits))]
 fn is_split(s: Segment, t: Segment) -> bool
     ensures { result ≡ splits s t }
 {
@@ -102,6 +111,7 @@ fn is_split(s: Segment, t: Segment) -> bool
         | points::turns_right(s.a, s.b, t.a) & points::turns_left(s.a, s.b, t.b)
 }
 
+#[tactic(auto, unfolding(plane::specs::Touching::touches))]
 pub fn is_touching(s: Segment, t: Segment) -> bool
     ensures { result ≡ touches s t }
 {
@@ -113,6 +123,7 @@ pub fn is_touching(s: Segment, t: Segment) -> bool
 }
 
 // Whether t is counted for the mark of s.
+#[tactic(auto, unfolding(plane::specs::Columns::counted_for))]
 pub fn is_counted_for(s: Segment, t: Segment) -> bool
     ensures { result ≡ counted_for s t }
 {
@@ -146,6 +157,7 @@ fn rise_of(x: u16, s: Segment) -> u64
 }
 
 // A rise by another segment's breadth, so that the two compare. Three coordinates multiplied stay below 2 to the 50.
+#[tactic(auto, using(crate::proofs::Sets::for_level_of))]
 fn level_of(rise: u64, breadth: u16) -> u64
     requires { rise ≤ 2 * largest_product }
     ensures { result ≡ rise * breadth }
@@ -154,6 +166,7 @@ fn level_of(rise: u64, breadth: u16) -> u64
 }
 
 // Whether s is higher than t at column x, or just right of a point where both start.
+#[tactic(auto, unfolding(plane::specs::Columns::higher))]
 pub fn is_higher(x: u16, s: Segment, t: Segment) -> bool
     ensures { result ≡ higher x s t }
 {

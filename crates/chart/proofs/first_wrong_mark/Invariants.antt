@@ -1,0 +1,11 @@
+use Prim.Native.Nat.{◌-◌}
+use Rattle.counts.proofs.LoopLaws.{Seen}
+use Rattle.record.specs.Records.{record_at, records}
+use Rattle.chart.specs.Rows.{wrong_mark}
+use Rattle.chart.proofs.first_wrong_mark.Given as goal
+
+abbrev pub invariant-loop-i : goal.invariant-loop-i
+invariant-loop-i l = Seen (wrong_mark (records l.s)) (record_at l.s) 0 l.n l.i
+
+abbrev pub decreases-loop-i : goal.decreases-loop-i
+decreases-loop-i l = l.n - l.i

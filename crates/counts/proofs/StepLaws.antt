@@ -1,0 +1,26 @@
+-- The steps of a loop that looks for the first, counts or sums, in the form that a function's tactic line finds: what a law
+-- concludes shows all that it speaks of.
+--     first_hit, first_more      looking for the first
+--     sum_none                   summing and counting, with `sum_more` of LoopLaws.antt
+--     looking, summing           for a function's tactic: what closes such a loop
+-- Assumes nothing.
+use Rattle.std.specs.Prelude.{◌≡◌, Bool, true, false, ℕ, ◌+◌, ◌<◌}
+use mathlib.Core.Path.{refl}
+use Rattle.counts.specs.Count.{sum, listed}
+use Rattle.counts.specs.Scan.{Found}
+use Rattle.counts.proofs.LoopLaws.{Seen, seen_none, seen-hit, seen_more, seen_all, sum_more}
+
+module _ {A : Type 0} (p : A → Bool) (f : ℕ → A) {a n i : ℕ} where
+  pub first_hit : Seen p f a n i → i < n → p (f i) ≡ true → Found p f a n i
+  first_hit s l t = seen-hit p f s l refl t
+
+  pub first_more : Seen p f a n i → i < n → p (f i) ≡ false → Seen p f a n (i + 1)
+  first_more s l t = seen_more p f s l refl t
+
+pub sum_none : {A : Type 0} (v : A → ℕ) (f : ℕ → A) → sum v (listed f 0 0) ≡ 0
+unfolding sum listed
+sum_none v f = refl
+
+pub ruleset looking = (seen_none, first_hit, first_more, seen_all)
+
+pub ruleset summing = (sum_none, sum_more)
