@@ -110,6 +110,7 @@ module _ {A : Type 0} (lt : A → A → Type 0) where
         go (inr k) ih =
             let off = is_false (same y x) (λ t. irrefl y (subst (lt y) (sym (same_true y x t)) (a.0 x k))) in
             omega (arith, ih k, ap ind off)
+    single [] a x m = elim m [ ]
 
     pub once : (same_refl : (x : A) → same x x ≡ true) (f : A → A) (xs : List A)
         → Ascending xs → ((x : A) → x ∈ xs → f x ∈ xs)

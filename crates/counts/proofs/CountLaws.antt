@@ -31,6 +31,7 @@ module _ {A : Type 0} where
   unfolding sum
   count-some p (y ∷ ys) x (Memᴰ.head e) t = omega (arith, ap (λ z. ind (p z)) e, ap ind t)
   count-some p (y ∷ ys) x (Memᴰ.tail m) t = omega (arith, count-some p ys x m t)
+  count-some p [] x x4 t = elim x4 [ ]
 
   -- whatever passes p passes q
   pub count-le : (p q : A → Bool) (xs : List A) → ((x : A) → x ∈ xs → p x ≡ true → q x ≡ true) → count p xs ≤ count q xs
@@ -111,6 +112,7 @@ module _ {A : Type 0} where
       go true e (inr k) ih = Memᴰ.tail (ih k)
       go false e (inl g) ih = absurd (true≢false (sym t ∙ ap p g ∙ e))
       go false e (inr k) ih = ih k
+  mem-keep p [] x m t = elim m [ ]
 
   -- ---- every member, some member
 

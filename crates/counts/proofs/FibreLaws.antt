@@ -66,6 +66,7 @@ module _ {P : Type 0} (same : P → P → Bool) where
         or-true : (b : Bool) → b || true ≡ true
         or-true true = refl
         or-true false = refl
+    among-map [] r x' = elim x' [ ]
 
     pub even-fibres : Even (count (λ r. t (over r)) xs)
     even-fibres =

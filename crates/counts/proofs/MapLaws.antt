@@ -35,6 +35,7 @@ module _ {A B : Type 0} (f : A → B) where
   pub mem-map : (xs : List A) (x : A) → x ∈ xs → f x ∈ map f xs
   mem-map (y ∷ ys) x (Memᴰ.head e) = Memᴰ.head (ap f e)
   mem-map (y ∷ ys) x (Memᴰ.tail m) = Memᴰ.tail (mem-map ys x m)
+  mem-map [] x x3 = elim x3 [ ]
 
 pub map-ext : {A B : Type 0} (v w : A → B) (xs : List A) → ((x : A) → x ∈ xs → v x ≡ w x) → map v xs ≡ map w xs
 map-ext v w [] h = refl

@@ -46,6 +46,7 @@ module _ {A : Type 0} (f : A → ℕ) where
       go (inl a) (inr b) ih = absurd (omega (arith, ap f a, sum-member f zs y b))
       go (inr a) (inl b) ih = absurd (omega (arith, ap f b, sum-member f zs x a))
       go (inr a) (inr b) ih = ih a b
+  sum_one [] h x y m n l g = elim m [ ]
 
 pub sum-map : {A B : Type 0} (f : A → B) (v : B → ℕ) (xs : List A) → sum v (map f xs) ≡ sum (λ x. v (f x)) xs
 unfolding sum

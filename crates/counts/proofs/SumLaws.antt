@@ -32,6 +32,7 @@ module _ {A : Type 0} where
   unfolding sum
   sum-member f (y ∷ ys) x (Memᴰ.head e) = omega (arith, ap f e)
   sum-member f (y ∷ ys) x (Memᴰ.tail m) = omega (arith, sum-member f ys x m)
+  sum-member f [] x x3 = elim x3 [ ]
 
   -- ---- through other operations
 
