@@ -2,4 +2,3 @@ pub mod CoordinateLaws
 pub mod SignedLaws
 pub mod CastLaws
 pub mod TurnedLaws
-pub mod Sets

@@ -45,7 +45,7 @@ impl Coord {
     }
 
     // The coordinate of a wider number, or that it is off the grid.
-    #[tactic(auto, using(crate::proofs::CoordinateLaws::on_fits, crate::proofs::Sets::for_Coord_of_wide))]
+    #[tactic(auto, unfolding(crate::specs::Coordinates::located))]
     pub fn of_wide(v: i64) -> Located
         ensures { result ≡ located v }
     {
@@ -75,14 +75,13 @@ impl Coord {
 }
 
 // The sum fits 32 bits and the count 16, whatever the number: `up_small`.
-#[tactic(auto, using(crate::proofs::CoordinateLaws::up_small, crate::proofs::CastLaws::sum_fits, crate::proofs::Sets::for_count_of))]
+#[tactic(auto, unfolding(crate::specs::Coordinates::up))]
 pub fn count_of(v: i16) -> u16
     ensures { result ≡ up v }
 {
     (v as i32 + 32768) as u16
 }
 
-#[tactic(auto, using(crate::proofs::CastLaws::number_is, crate::proofs::Sets::for_number_at))]
 pub fn number_at(n: u16) -> i16
     ensures { result ≡ down n }
 {

@@ -35,7 +35,6 @@ pub enum Turn {
 }
 
 // The one place where two coordinates are multiplied: a product reaches 65,535 squared, beyond signed 32 bits, so 64.
-#[tactic(auto, using(crate::proofs::Sets::for_product))]
 pub fn product(a: u16, b: u16) -> u64
     ensures { Product a b result }
 {
@@ -55,7 +54,7 @@ fn minus_of(p: Point, q: Point, r: Point) -> u64
 }
 
 // How the way from p to q turns onto the way from p to r.
-#[tactic(auto, using(crate::proofs::Sets::for_turn_of))]
+#[tactic(auto, unfolding(crate::specs::Turning::turn_of, plane::specs::Turns::turns_left, plane::specs::Turns::turns_right))]
 pub fn turn_of(p: Point, q: Point, r: Point) -> Turn
     ensures { result ≡ turn_of p q r }
 {

@@ -4,4 +4,3 @@ pub mod HalfLaws
 pub mod LeadLaws
 pub mod OrderLaws
 pub mod CaseLaws
-pub mod Sets

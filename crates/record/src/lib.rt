@@ -49,7 +49,7 @@ fn number_of(s: &[i16], i: usize, k: usize) -> i16
 
 // Record i of any array: what is missing reads as 0. All numbers are read before any is used, so that those of a whole
 // record cost one test together.
-#[tactic(auto, using(crate::proofs::Sets::for_record_at), unfolding(crate::specs::Records::record_at))]
+#[tactic(auto, unfolding(crate::specs::Records::record_at))]
 pub fn record_at(s: &[i16], i: usize) -> Record
     ensures { result ≡ record_at s.now i }
 {

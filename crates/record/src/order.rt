@@ -24,7 +24,7 @@ fn square_length_of(r: Record) -> u64
 }
 
 // Which of two records of one half at one end leads. Lengths are looked at only in line.
-#[tactic(auto, using(crate::proofs::Sets::for_order_is_leading))]
+#[tactic(auto, unfolding(crate::specs::Order::leads, points::specs::Turning::turn_of, plane::specs::Turns::turns_left, plane::specs::Turns::turns_right, plane::specs::Turns::straight))]
 fn is_leading(r: Record, e: Record) -> bool
     ensures { result ≡ leads r e }
 {
@@ -36,7 +36,7 @@ fn is_leading(r: Record, e: Record) -> bool
     }
 }
 
-#[tactic(auto, using(crate::proofs::Sets::for_order_is_earlier_here))]
+#[tactic(auto, unfolding(crate::specs::Order::earlier))]
 fn is_earlier_here(r: Record, e: Record) -> bool
     ensures { result ≡ earlier r e }
 {
@@ -47,7 +47,7 @@ fn is_earlier_here(r: Record, e: Record) -> bool
 }
 
 // Whether r comes strictly before e in a chart.
-#[tactic(auto, using(crate::proofs::Sets::for_order_is_earlier))]
+#[tactic(auto, unfolding(crate::specs::Order::precedes))]
 pub fn is_earlier(r: Record, e: Record) -> bool
     ensures { result ≡ precedes r e }
 {
