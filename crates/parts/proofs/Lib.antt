@@ -1,3 +1,2 @@
 pub mod PartLaws
 pub mod RunLaws
-pub mod Sets

@@ -57,7 +57,7 @@ fn first_there(s: &[i16], p: Point, n: usize) -> usize
 }
 
 // The first of the records from a on, below n, that is not at p; where there is none n, or a if that lies past n.
-#[tactic(auto, unfolding(counts::specs::Scan::first_from, record::specs::Records::record_at))]
+#[tactic(auto, using(crate::proofs::PartLaws::firsts))]
 pub fn first_elsewhere(s: &[i16], p: Point, a: usize, n: usize) -> usize
     ensures { result ≡ first_from (off_corner p) (record_at s.now) a n }
 {
@@ -73,7 +73,7 @@ pub fn first_elsewhere(s: &[i16], p: Point, a: usize, n: usize) -> usize
 
 // Where the run of records whose dominating end is p lies. Where the array is ordered these are all of them; of any
 // other array it is the first run.
-#[tactic(auto, unfolding(crate::specs::Parts::run_of))]
+#[tactic(auto, using(crate::proofs::PartLaws::first_high), unfolding(crate::specs::Parts::run_of))]
 pub fn run_of(s: &[i16], p: Point) -> Span
     ensures { result ≡ run_of s.now p }
 {
@@ -90,7 +90,7 @@ pub fn run_of(s: &[i16], p: Point) -> Span
 }
 
 // That run, as that very part of the array.
-#[tactic(auto, unfolding(crate::specs::Parts::run_of))]
+#[tactic(auto, using(crate::proofs::PartLaws::run_rises, crate::proofs::PartLaws::run_short))]
 pub fn run_at(s: &[i16], p: Point) -> &[i16]
     ensures { Run s.entry p result }
 {
@@ -116,7 +116,7 @@ fn is_from_second(a: &[i16], b: &[i16]) -> bool
     is_earlier(record_at(b, 0), record_at(a, 0))
 }
 
-#[tactic(auto, unfolding(crate::specs::Parts::head_of, crate::specs::Parts::from_second))]
+#[tactic(auto, unfolding(crate::specs::Parts::head_of))]
 pub fn head_of(a: &[i16], b: &[i16]) -> Head
     ensures { result ≡ head_of a.now b.now }
 {
@@ -131,7 +131,7 @@ pub fn head_of(a: &[i16], b: &[i16]) -> Head
 
 // The first record of whichever array has the smaller, as that very part of it. Empty, at the first array's beginning,
 // where neither has a whole record.
-#[tactic(auto, unfolding(crate::specs::Parts::head_of, crate::specs::Parts::from_second))]
+#[tactic(auto, using(crate::proofs::PartLaws::whole))]
 pub fn smaller_head<'a>(a: &'a [i16], b: &'a [i16]) -> &'a [i16]
     ensures { SmallerHead a.entry b.entry result }
 {
