@@ -1,3 +1,2 @@
 pub mod SegmentLaws
 pub mod StandLaws
-pub mod Sets

@@ -157,7 +157,6 @@ fn rise_of(x: u16, s: Segment) -> u64
 }
 
 // A rise by another segment's breadth, so that the two compare. Three coordinates multiplied stay below 2 to the 50.
-#[tactic(auto, using(crate::proofs::Sets::for_level_of))]
 fn level_of(rise: u64, breadth: u16) -> u64
     requires { rise ≤ 2 * largest_product }
     ensures { result ≡ rise * breadth }
