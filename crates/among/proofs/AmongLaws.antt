@@ -1,5 +1,6 @@
 -- What is among the records, from what a loop over them answers.
---     has-found, has_segment-found, touched-found     by the first place
+--     has-found, has_segment-found, touched-found     by the first place; together
+--     first_found, for a function's tactic line
 --     ends-counted                 by the number counted
 --     counted_mark-odd, counted_mark-even    the counted mark, by the number counted
 -- Assumes nothing.
@@ -47,3 +48,5 @@ module _ (s : List ℤ) where
     pub counted_mark-even : (m % 2 ≡ 1 → ⊥) → unmarked ≡ counted_mark (records s) t
     counted_mark-even e =
         ap (λ b. cond b marked unmarked) (sym (ne_eqb (m % 2) 1 e) ∙ ap (λ m. eqb (m % 2) 1) h.is)
+
+pub ruleset first_found = (has-found, has_segment-found, touched-found)

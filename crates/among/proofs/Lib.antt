@@ -1,2 +1,1 @@
 pub mod AmongLaws
-pub mod Sets

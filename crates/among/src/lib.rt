@@ -40,7 +40,7 @@ pub fn place_of(s: &[i16], e: Record) -> usize
 }
 
 // Whether the record is there, with its mark.
-#[tactic(auto, using(crate::proofs::Sets::for_has_record))]
+#[tactic(auto, using(crate::proofs::AmongLaws::first_found))]
 pub fn has_record(s: &[i16], e: Record) -> bool
     ensures { result ≡ has (records s.now) e }
 {
@@ -50,7 +50,6 @@ pub fn has_record(s: &[i16], e: Record) -> bool
 
 // ---- a segment
 
-#[tactic(auto, using(segment::proofs::StandLaws::standing))]
 fn is_same_half(t: Segment, e: Record) -> bool
     ensures { result ≡ of_segment (is_segment t) e }
 {
@@ -73,7 +72,7 @@ fn first_same_half(s: &[i16], n: usize, t: Segment) -> usize
 }
 
 // Whether the segment is there, whatever its mark.
-#[tactic(auto, using(crate::proofs::Sets::for_has_segment))]
+#[tactic(auto, using(crate::proofs::AmongLaws::first_found))]
 pub fn has_segment(s: &[i16], t: Segment) -> bool
     ensures { result ≡ has_segment (records s.now) t }
 {
@@ -83,7 +82,6 @@ pub fn has_segment(s: &[i16], t: Segment) -> bool
 
 // ---- a segment that touches
 
-#[tactic(auto, using(segment::proofs::StandLaws::standing))]
 fn is_touching_half(t: Segment, e: Record) -> bool
     ensures { result ≡ of_segment (touches t) e }
 {
@@ -106,7 +104,7 @@ fn first_touching(s: &[i16], n: usize, t: Segment) -> usize
 }
 
 // Whether a segment of the array touches this one.
-#[tactic(auto, using(crate::proofs::Sets::for_is_touched))]
+#[tactic(auto, using(crate::proofs::AmongLaws::first_found))]
 pub fn is_touched(s: &[i16], t: Segment) -> bool
     ensures { result ≡ touched (records s.now) t }
 {
@@ -116,7 +114,6 @@ pub fn is_touched(s: &[i16], t: Segment) -> bool
 
 // ---- ends at a point
 
-#[tactic(auto, using(segment::proofs::StandLaws::standing))]
 fn is_ending_half(p: Point, e: Record) -> bool
     ensures { result ≡ of_segment (ends_at p) e }
 {
@@ -140,7 +137,6 @@ fn count_ends(s: &[i16], n: usize, p: Point) -> usize
 }
 
 // How many segments end at the point.
-#[tactic(auto, using(crate::proofs::Sets::for_end_count))]
 pub fn end_count(s: &[i16], p: Point) -> usize
     ensures { result ≡ end_count (records s.now) p }
 {
@@ -149,7 +145,6 @@ pub fn end_count(s: &[i16], p: Point) -> usize
 
 // ---- the counted mark
 
-#[tactic(auto, using(segment::proofs::StandLaws::standing))]
 fn is_counted_half(t: Segment, e: Record) -> bool
     ensures { result ≡ of_segment (counted_for t) e }
 {
@@ -173,7 +168,7 @@ fn count_for(s: &[i16], n: usize, t: Segment) -> usize
 }
 
 // The mark of a segment by document 01's count over the array's own segments.
-#[tactic(auto, using(crate::proofs::Sets::for_counted_mark), unfolding(grid::specs::Coordinates::up))]
+#[tactic(auto, unfolding(grid::specs::Coordinates::up))]
 pub fn counted_mark(s: &[i16], t: Segment) -> u16
     ensures { result ≡ counted_mark (records s.now) t }
 {
