@@ -5,4 +5,3 @@ pub mod VerdictLaws
 pub mod RegionLaws
 pub mod OnceLaws
 pub mod IndexLaws
-pub mod Sets

@@ -69,7 +69,6 @@ fn first_bad_mark(s: &[i16], n: usize) -> usize
 
 // ---- 5: a record does not come strictly after the one before
 
-#[tactic(auto, using(crate::proofs::Sets::for_is_not_after))]
 fn is_not_after(s: &[i16], i: usize) -> bool
     ensures { result ≡ not_after s.now i }
 {
@@ -95,7 +94,6 @@ fn first_not_after(s: &[i16], n: usize) -> usize
 
 // ---- 6: the other half is missing
 
-#[tactic(auto, using(crate::proofs::Sets::for_lacks_other_half))]
 fn lacks_other_half(s: &[i16], r: Record) -> bool
     ensures { result ≡ no_other_half (records s.now) r }
 {
@@ -119,7 +117,6 @@ fn first_lacking(s: &[i16], n: usize) -> usize
 
 // ---- 7: two segments touch
 
-#[tactic(auto, using(crate::proofs::Sets::for_is_taking_part))]
 fn is_taking_part(s: &[i16], r: Record) -> bool
     ensures { result ≡ touching (records s.now) r }
 {
@@ -143,7 +140,6 @@ fn first_taking_part(s: &[i16], n: usize) -> usize
 
 // ---- 8: an odd number of segments ends at a point
 
-#[tactic(auto, using(crate::proofs::Sets::for_is_odd_end))]
 fn is_odd_end(s: &[i16], r: Record) -> bool
     ensures { result ≡ odd_end (records s.now) r }
 {
@@ -168,7 +164,6 @@ fn first_odd_end(s: &[i16], n: usize) -> usize
 
 // ---- 9: a mark is not the counted one
 
-#[tactic(auto, using(crate::proofs::Sets::for_has_wrong_mark))]
 fn has_wrong_mark(s: &[i16], r: Record) -> bool
     ensures { result ≡ wrong_mark (records s.now) r }
 {
@@ -201,7 +196,7 @@ fn refused(number: u16, index: usize) -> Verdict
 
 // The records, row after row of the table. Never more than the limit: so the work, which grows as the square of their
 // number, is bounded whatever the array's length.
-#[tactic(auto, using(crate::proofs::Sets::for_judge), unfolding(crate::specs::Verdicts::judged))]
+#[tactic(auto, unfolding(crate::specs::Verdicts::judged))]
 fn judge(s: &[i16]) -> Verdict
     requires { record_count s.now ≤ limit }
     ensures { result ≡ judged s.now }
