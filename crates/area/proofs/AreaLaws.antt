@@ -4,6 +4,7 @@
 --     twice_area-is       so twice the area is the gains less the losses
 --     area_of-accepted, area_of-refused      the answer in each case of the verdict
 --     area_of-refusal     the chart's refusal is given first, and none where it is answered
+--     segment_rises, gains_less_losses, few_records      for functions' tactic lines
 -- Assumes nothing.
 use mathlib.Core.Path.{◌≡◌, refl, sym, ap, ap₂, ◌∙◌}
 use mathlib.Core.Logic.{◌⊎◌, inl, inr}
@@ -28,6 +29,7 @@ use Rattle.chart.specs.declared.Refusal.{Refusal}
 use Rattle.chart.specs.declared.Verdict.{Verdict}
 use Rattle.chart.specs.declared.Verdict.TheVariants as told
 use Rattle.chart.specs.Verdicts.{refusal_of, verdict}
+use Rattle.chart.proofs.RegionLaws.{accepted-is}
 use Rattle.area.specs.declared.Area.TheVariants.{Twice, Refused}
 use Rattle.area.specs.Areas.{total, share, twice_area, area_if, area_of, area_refusal}
 use Rattle.area.specs.Sums.{ground, across, strip, gain, loss, Term}
@@ -117,3 +119,9 @@ area_of-refusal s = by-verdict (verdict s)
     by-verdict : (v : Verdict) → area_refusal (area_if v (twice_area (records s))) ≡ refusal_of v
     by-verdict told.Accepted = refl
     by-verdict (told.Refused r) = refl
+
+pub ruleset segment_rises = (segment-across)
+
+pub ruleset gains_less_losses = (twice_area-is)
+
+pub ruleset few_records = (accepted-is)

@@ -2,6 +2,7 @@
 -- value goes through its bits, `to_z w (of_z w z)`.
 --     difference-fits, difference-is     where both numbers fit the signed width, so does their difference
 --     sum-small                          and a sum over no more records than shown fits 64 bits, signed
+--     differences                        for a function's tactic line: all three
 -- Assumes nothing.
 use mathlib.Core.Path.{◌≡◌, ap₂, ◌∙◌}
 use Prim.Native.Nat.{ℕ, ◌^◌, ◌≤◌, ◌<◌}
@@ -27,3 +28,5 @@ module _ (w : Width) (m k : ℕ) (h : m < 2 ^ hbits w) (g : k < 2 ^ hbits w) whe
 pub sum-small : {A : Type 0} {v : A → ℕ} {f : ℕ → A} {n m : ℕ} → Summed v f most_term n m → n ≤ most_records
     → m < 2 ^ hbits w64
 sum-small s l = omega (arith, s.most)
+
+pub ruleset differences = (difference-fits, difference-is, sum-small)

@@ -1,3 +1,2 @@
 pub mod AreaLaws
 pub mod CastLaws
-pub mod Sets

@@ -23,7 +23,7 @@ pub enum Area {
 // ---- one record
 
 // How far across the segment of a left half goes. A right half counts for nothing, so that each segment is taken once.
-#[tactic(auto, using(crate::proofs::Sets::for_across_of))]
+#[tactic(auto, using(crate::proofs::AreaLaws::segment_rises))]
 fn across_of(r: Record) -> u16
     ensures { result ≡ across r }
 {
@@ -42,7 +42,7 @@ fn strip_of(w: u16, a: u16, b: u16) -> u64
     points::product(w, a) + points::product(w, b)
 }
 
-#[tactic(auto, using(crate::proofs::Sets::for_gain_of), unfolding(grid::specs::Coordinates::up))]
+#[tactic(auto, unfolding(crate::specs::Sums::gain, grid::specs::Coordinates::up))]
 fn gain_of(r: Record) -> u64
     ensures { Term (gain r) result }
 {
@@ -53,7 +53,7 @@ fn gain_of(r: Record) -> u64
     strip_of(w, r.dom.y, r.other.y)
 }
 
-#[tactic(auto, using(crate::proofs::Sets::for_loss_of), unfolding(grid::specs::Coordinates::up))]
+#[tactic(auto, unfolding(crate::specs::Sums::loss, grid::specs::Coordinates::up))]
 fn loss_of(r: Record) -> u64
     ensures { Term (loss r) result }
 {
@@ -97,7 +97,7 @@ fn sum_of_losses(s: &[i16], n: usize) -> u64
 }
 
 // Both sums stay below 2 to the 44, so their difference fits.
-#[tactic(auto, using(plane::proofs::DifferenceLaws::diff, crate::proofs::Sets::for_twice_area))]
+#[tactic(auto, using(plane::proofs::DifferenceLaws::diff, crate::proofs::AreaLaws::gains_less_losses, crate::proofs::CastLaws::differences))]
 fn twice_area(s: &[i16], n: usize) -> i64
     requires { n ≤ most_records }
     ensures { result ≡ twice_area (first_records s.now n) }
@@ -110,7 +110,7 @@ fn twice_area(s: &[i16], n: usize) -> i64
 // ---- a chart
 
 // Twice the area of a chart, or why it is none.
-#[tactic(auto, using(crate::proofs::Sets::for_area2))]
+#[tactic(auto, using(crate::proofs::AreaLaws::few_records), unfolding(crate::specs::Areas::area_of))]
 pub fn area2(chart: &[i16]) -> Area
     ensures { result ≡ area_of chart.now }
 {

@@ -1,6 +1,6 @@
 -- Laws of the run at a corner of a chart (specs/Corners.antt).
 --     corner_of-accepted, corner_of-refused    by the verdict
---     corner-within                          it lies in the array
+--     corner-within                          it lies in the array; its halves, corner_rises and corner_ends
 --     corner-short                           and no further than the longest chart goes
 -- Assumes nothing.
 use mathlib.Core.Path.{◌≡◌, refl}
@@ -9,6 +9,7 @@ use mathlib.Core.List.{List}
 use Prim.Native.Nat.{◌*◌, ◌≤◌, zero-le}
 use native.Mathlib.Omega.{arith}
 use lib.IntN.{ℤ}
+use lib.ListN.{length}
 use Rattle.plane.specs.declared.Point.{Point}
 use Rattle.record.specs.Records.{width}
 use Rattle.parts.specs.declared.Span.{Span}
@@ -37,6 +38,13 @@ module _ (s : List ℤ) (p : Point) where
       go : (b : Bool) → Within s (cond b (run_of s p) nowhere)
       go true = run-within s p refl
       go false = (zero-le, zero-le)
+
+  -- the two halves of that, for a function that cuts by the run
+  pub corner_rises : (corner_of s p).from ≤ (corner_of s p).upto
+  corner_rises = (corner-within refl).0
+
+  pub corner_ends : (corner_of s p).upto ≤ length s
+  corner_ends = (corner-within refl).1
 
   pub corner-short : {a : Span} → a ≡ corner_of s p → a.upto ≤ width * limit
   corner-short e = rw e (go (verdict s) refl)

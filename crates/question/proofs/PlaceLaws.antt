@@ -55,3 +55,6 @@ module _ (s : List ℤ) (p : Point) {v : Verdict} (h : v ≡ verdict s) where
   pub placed-refused : {r : Refusal} → v ≡ Refused r → place.Refused r ≡ placed s p
   unfolding placed
   placed-refused e = ap (λ v. place_if v (place_of (records s) p)) (sym e ∙ h)
+
+-- for a function's tactic line
+pub ruleset found_held = (held-there)

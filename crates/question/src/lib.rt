@@ -28,7 +28,6 @@ pub enum Place {
 
 // ---- where a point lies
 
-#[tactic(auto, using(segment::proofs::StandLaws::standing))]
 fn is_held(p: Point, e: Record) -> bool
     ensures { result ≡ of_segment (holds p) e }
 {
@@ -51,7 +50,7 @@ fn first_held(s: &[i16], n: usize, p: Point) -> usize
 }
 
 // Whether a segment of the array's records holds p.
-#[tactic(auto, using(crate::proofs::Sets::for_is_edge))]
+#[tactic(auto, using(crate::proofs::PlaceLaws::found_held))]
 pub fn is_edge(s: &[i16], p: Point) -> bool
     ensures { result ≡ held (records s.now) p }
 {
@@ -59,7 +58,6 @@ pub fn is_edge(s: &[i16], p: Point) -> bool
     first_held(s, n, p) < n
 }
 
-#[tactic(auto, using(segment::proofs::StandLaws::standing))]
 pub fn is_below(p: Point, e: Record) -> bool
     ensures { result ≡ counted p e }
 {
@@ -82,7 +80,6 @@ fn count_below(s: &[i16], n: usize, p: Point) -> usize
     m
 }
 
-#[tactic(auto, using(crate::proofs::Sets::for_is_odd_below))]
 fn is_odd_below(s: &[i16], n: usize, p: Point) -> bool
     ensures { result ≡ odd (below (first_records s.now n) p) }
 {
@@ -90,7 +87,6 @@ fn is_odd_below(s: &[i16], n: usize, p: Point) -> bool
 }
 
 // Edge where a segment holds the point; else by whether an odd number lies below it.
-#[tactic(auto, using(crate::proofs::Sets::for_place_by))]
 pub fn place_by(edge: bool, inner: bool) -> Place
     ensures { result ≡ place_by edge inner }
 {
@@ -104,7 +100,7 @@ pub fn place_by(edge: bool, inner: bool) -> Place
 }
 
 // Whether a point lies inside the chart, outside it or on its edge.
-#[tactic(auto, using(crate::proofs::Sets::for_point))]
+#[tactic(auto, unfolding(crate::specs::Places::placed, crate::specs::Places::place_of))]
 pub fn point(chart: &[i16], x: i16, y: i16) -> Place
     ensures { result ≡ placed chart.now (point_of x y) }
 {
@@ -120,7 +116,7 @@ pub fn point(chart: &[i16], x: i16, y: i16) -> Place
 // ---- the run at a corner
 
 // Where the run of records whose dominating end is the point lies; empty where there is none or the chart is refused.
-#[tactic(auto, using(crate::proofs::Sets::for_corner_of))]
+#[tactic(auto, unfolding(crate::specs::Corners::corner_of))]
 pub fn corner_of(chart: &[i16], x: i16, y: i16) -> Span
     ensures { result ≡ corner_of chart.now (point_of x y) }
 {
@@ -133,7 +129,7 @@ pub fn corner_of(chart: &[i16], x: i16, y: i16) -> Span
 }
 
 // That run, as that very part of the chart.
-#[tactic(auto, using(crate::proofs::Sets::for_corner))]
+#[tactic(auto, using(crate::proofs::CornerLaws::corner_rises, crate::proofs::CornerLaws::corner_ends))]
 pub fn corner(chart: &[i16], x: i16, y: i16) -> &[i16]
     ensures { Corner chart.entry (point_of x y) result }
 {
