@@ -28,7 +28,6 @@ pub enum Nearest {
 // ---- the nearest below
 
 // Whether e is counted below p and is higher there than t.
-#[tactic(auto, using(crate::proofs::Sets::for_is_higher_below))]
 fn is_higher_below(p: Point, t: Segment, e: Record) -> bool
     ensures { result ≡ higher_below p t e }
 {
@@ -52,7 +51,7 @@ fn first_below(s: &[i16], n: usize, p: Point) -> usize
 
 // The first of the highest below p, the number of records where there is none. Each is compared with the highest so far
 // alone: in a sound chart, where which of two is higher is an order, that is the first that is nearest.
-#[tactic(auto, using(crate::proofs::Sets::for_highest_below))]
+#[tactic(auto, using(crate::proofs::Sets::climbing))]
 pub fn highest_below(s: &[i16], p: Point) -> usize
     ensures { Highest s.now p result }
 {
@@ -70,7 +69,7 @@ pub fn highest_below(s: &[i16], p: Point) -> usize
     top
 }
 
-#[tactic(auto, using(crate::proofs::Sets::for_nearest_of))]
+#[tactic(auto, using(crate::proofs::Sets::highest))]
 fn nearest_of(s: &[i16], p: Point) -> Nearest
     requires { Sound (records s.now) }
     ensures { result ≡ nearest_of s.now (record_count s.now) p }
@@ -84,7 +83,7 @@ fn nearest_of(s: &[i16], p: Point) -> Nearest
 }
 
 // The index of the record whose segment is the nearest straight below a point.
-#[tactic(auto, using(crate::proofs::Sets::for_nearest_below))]
+#[tactic(auto, using(crate::proofs::Sets::sound), unfolding(crate::specs::Nearests::nearest_below))]
 pub fn nearest_below(chart: &[i16], x: i16, y: i16) -> Nearest
     ensures { result ≡ nearest_below chart.now (point_of x y) }
 {
@@ -99,7 +98,7 @@ pub fn nearest_below(chart: &[i16], x: i16, y: i16) -> Nearest
 // ---- where a point lies, by the mark of the nearest below
 
 // What `is_odd_below` answers, without the count.
-#[tactic(auto, using(crate::proofs::Sets::for_is_marked_below), unfolding(grid::specs::Coordinates::up))]
+#[tactic(auto, using(crate::proofs::Sets::marked), unfolding(grid::specs::Coordinates::up))]
 fn is_marked_below(s: &[i16], p: Point) -> bool
     requires { Sound (records s.now) }
     ensures { result ≡ odd (below (records s.now) p) }
@@ -114,7 +113,7 @@ fn is_marked_below(s: &[i16], p: Point) -> bool
 }
 
 // What `point` answers, told by the side mark of the nearest boundary below alone.
-#[tactic(auto, using(crate::proofs::Sets::for_inside_by_mark))]
+#[tactic(auto, using(crate::proofs::Sets::sound), unfolding(question::specs::Places::placed, question::specs::Places::place_of))]
 pub fn inside_by_mark(chart: &[i16], x: i16, y: i16) -> Place
     ensures { result ≡ placed chart.now (point_of x y) }
 {

@@ -39,6 +39,7 @@ first_found p (d ∷ ds) c m t = go (p d) refl (Memᴰ.cases_cons m) (λ k. firs
     go true e k ih = (Memᴰ.head refl, e)
     go false e (inl g) ih = absurd (true≢false (sym t ∙ ap p g ∙ e))
     go false e (inr k) ih = let w = ih k in (Memᴰ.tail w.0, w.1)
+first_found p mathlib.Core.List.[] c m t = elim m [ ]
 
 module _ {s : List ℤ} (region : Region s) where
   -- ---- a record's cycle is there, and has its segment
