@@ -84,6 +84,7 @@ mem-either (d ∷ cs) laid c n r m =
     go : (c ≡ d) ⊎ (c ∈ cs) → (c ∈ cs → In cs) → In (d ∷ cs)
     go (inl e) ih = (r, either-here d cs r (subst (λ c. r ∈ c) e m), refl, refl)
     go (inr k) ih = later (ih k)
+mem-either [] laid c n r m = elim n [ ]
 
 pub either-halves : (cs : List (List Record)) → Laid cs → (r : Record) → r ∈ either cs → other_half r ∈ either cs
 unfolding either

@@ -181,7 +181,7 @@ fn cut_at(
     firsts: &mut [usize],
 ) -> usize
     requires region { Region s.now × Stretch s.now rest.now 0 m }
-    requires s_in_bounds { (record_count s.now ≤ length starts.old) × (record_count s.now ≤ length firsts.old) }
+    requires room { (record_count s.now ≤ length starts.old) × (record_count s.now ≤ length firsts.old) }
     ensures { CutTo s.now p w rest.now m
         starts.old firsts.old result starts.new firsts.new }
 {
@@ -199,7 +199,7 @@ fn cut_at(
 #[tactic(auto, using(crate::proofs::CuttingLaws::cutting))]
 fn cut_walk(s: &[i16], w: usize, starts: &mut [usize], firsts: &mut [usize])
     requires region { Region s.now × (w < record_count s.now) }
-    requires s_in_bounds { (record_count s.now ≤ length starts.old) × (record_count s.now ≤ length firsts.old) }
+    requires room { (record_count s.now ≤ length starts.old) × (record_count s.now ≤ length firsts.old) }
     ensures { CutWalk s.now w
         starts.old firsts.old starts.new firsts.new }
 {
@@ -227,7 +227,7 @@ fn cut_walk(s: &[i16], w: usize, starts: &mut [usize], firsts: &mut [usize])
 #[tactic(auto, using(crate::proofs::Sets::for_cut_from))]
 fn cut_from(s: &[i16], i: usize, starts: &mut [usize], firsts: &mut [usize])
     requires region { Region s.now × (i < record_count s.now) }
-    requires s_in_bounds { (record_count s.now ≤ length starts.old) × (record_count s.now ≤ length firsts.old) }
+    requires room { (record_count s.now ≤ length starts.old) × (record_count s.now ≤ length firsts.old) }
     ensures { CutFrom s.now i
         starts.old firsts.old starts.new firsts.new }
 {
@@ -245,7 +245,7 @@ fn cut_from(s: &[i16], i: usize, starts: &mut [usize], firsts: &mut [usize])
 #[tactic(auto, using(crate::proofs::Sets::for_cut_walks))]
 fn cut_walks(s: &[i16], starts: &mut [usize], firsts: &mut [usize])
     requires region { Region s.now × Unset (record_count s.now) starts.old }
-    requires s_in_bounds { record_count s.now ≤ length firsts.old }
+    requires room { record_count s.now ≤ length firsts.old }
     ensures { CutWalks s.now
         starts.old firsts.old starts.new firsts.new }
 {
