@@ -31,7 +31,7 @@ pub struct Cycles {
 // ---- the way
 
 // Whether the segment of r is walked from its dominating end, with the inside on the left.
-#[tactic(auto, using(crate::proofs::Sets::for_is_departing), unfolding(grid::specs::Coordinates::up))]
+#[tactic(auto, unfolding(grid::specs::Coordinates::up))]
 fn is_departing(r: Record) -> bool
     ensures { result ≡ departs r }
 {
@@ -52,7 +52,6 @@ fn way_back(s: &[i16], i: usize) -> usize
 }
 
 // Whether no record at its corner comes before record j.
-#[tactic(auto, using(crate::proofs::Sets::for_is_first_here))]
 fn is_first_here(s: &[i16], j: usize) -> bool
     ensures { result ≡ first_here s.now j }
 {
@@ -64,7 +63,7 @@ fn is_first_here(s: &[i16], j: usize) -> bool
 }
 
 // Turning clockwise from record j around its corner, the first record met.
-#[tactic(auto, using(counts::proofs::ReadLaws::found_from, crate::proofs::Sets::for_clockwise_from))]
+#[tactic(auto, using(counts::proofs::ReadLaws::found_from, crate::proofs::Sets::turning))]
 fn clockwise_from(s: &[i16], j: usize) -> usize
     requires { j < record_count s.now }
     ensures { PlaceOf s.now (clockwise s.now j) result }
@@ -79,7 +78,7 @@ fn clockwise_from(s: &[i16], j: usize) -> usize
 }
 
 // Which record is walked after record i.
-#[tactic(auto, using(crate::proofs::Sets::for_next_of))]
+#[tactic(auto, using(crate::proofs::Sets::onward))]
 fn next_of(s: &[i16], i: usize) -> usize
     requires { Region s.now × (i < record_count s.now) }
     ensures { PlaceOf s.now (next s.now i) result }
@@ -115,7 +114,6 @@ fn visit_of(s: &[i16], p: Point, rest: &[usize], m: usize) -> usize
     m
 }
 
-#[tactic(auto, using(crate::proofs::Sets::for_lesser_of))]
 fn lesser_of(i: usize, j: usize) -> usize
     ensures { result ≡ lesser i j }
 {
@@ -126,7 +124,7 @@ fn lesser_of(i: usize, j: usize) -> usize
 }
 
 // The least of f and of the records at the places from k on, below m, and their other halves.
-#[tactic(auto, using(crate::proofs::Sets::for_first_half))]
+#[tactic(auto, using(crate::proofs::Sets::halving))]
 fn first_half(s: &[i16], f: usize, rest: &[usize], k: usize, m: usize) -> usize
     requires { Region s.now × Stretch s.now rest.now k m }
     ensures { result ≡ first_half s.now f (drop k (take m rest.now)) }
@@ -143,7 +141,6 @@ fn first_half(s: &[i16], f: usize, rest: &[usize], k: usize, m: usize) -> usize
 }
 
 // Both halves of record j get the number v.
-#[tactic(auto, using(crate::proofs::Sets::for_name_record))]
 fn name_record(s: &[i16], v: usize, j: usize, to: &mut [usize])
     requires { Region s.now × (j < record_count s.now) × (record_count s.now ≤ length to.old) }
     ensures { to.new ≡ name_record s.now v j to.old }
@@ -154,7 +151,7 @@ fn name_record(s: &[i16], v: usize, j: usize, to: &mut [usize])
 }
 
 // Both halves of each of the records at the places from k on, below m, get the number v.
-#[tactic(auto, using(crate::proofs::Sets::for_name_all))]
+#[tactic(auto, using(crate::proofs::Sets::naming))]
 fn name_all(s: &[i16], v: usize, rest: &[usize], k: usize, m: usize, to: &mut [usize])
     requires { Region s.now × Stretch s.now rest.now k m × (record_count s.now ≤ length to.old) }
     ensures { to.new
@@ -170,7 +167,7 @@ fn name_all(s: &[i16], v: usize, rest: &[usize], k: usize, m: usize, to: &mut [u
 
 // The walk that started at w comes to p: where it has departed from p, what it has walked since is a cycle. How many of
 // the m records are left.
-#[tactic(auto, using(crate::proofs::Sets::for_cut_at))]
+#[tactic(auto, using(crate::proofs::Sets::cuts))]
 fn cut_at(
     s: &[i16],
     p: Point,
@@ -224,7 +221,7 @@ fn cut_walk(s: &[i16], w: usize, starts: &mut [usize], firsts: &mut [usize])
 }
 
 // Record i is next: a record that departs and has no start yet is the least of its walk, which is cut.
-#[tactic(auto, using(crate::proofs::Sets::for_cut_from))]
+#[tactic(auto, using(crate::proofs::Sets::freed))]
 fn cut_from(s: &[i16], i: usize, starts: &mut [usize], firsts: &mut [usize])
     requires region { Region s.now × (i < record_count s.now) }
     requires room { (record_count s.now ≤ length starts.old) × (record_count s.now ≤ length firsts.old) }
@@ -242,7 +239,7 @@ fn cut_from(s: &[i16], i: usize, starts: &mut [usize], firsts: &mut [usize])
 }
 
 // Each walk in turn.
-#[tactic(auto, using(crate::proofs::Sets::for_cut_walks))]
+#[tactic(auto, using(crate::proofs::Sets::walking))]
 fn cut_walks(s: &[i16], starts: &mut [usize], firsts: &mut [usize])
     requires region { Region s.now × Unset (record_count s.now) starts.old }
     requires room { record_count s.now ≤ length firsts.old }
@@ -260,7 +257,7 @@ fn cut_walks(s: &[i16], starts: &mut [usize], firsts: &mut [usize])
 // ---- all walks
 
 // The first n places get the number v.
-#[tactic(auto, using(crate::proofs::Sets::for_fill))]
+#[tactic(auto, using(crate::proofs::Sets::filling))]
 fn fill(v: usize, n: usize, to: &mut [usize])
     requires { n ≤ length to.old }
     ensures { to.new ≡ listed (λ i. v) 0 n ++ drop n to.old }
@@ -273,7 +270,7 @@ fn fill(v: usize, n: usize, to: &mut [usize])
 }
 
 // The walks of a chart, cut: for a record that is not there, and for a chart that is refused, 0.
-#[tactic(auto, using(crate::proofs::Sets::for_cycles_of))]
+#[tactic(auto, using(crate::proofs::Sets::answering))]
 pub fn cycles_of(chart: &[i16]) -> Cycles
     ensures { Circled chart.now result }
 {

@@ -104,7 +104,7 @@ fn outer_in(s: &[i16], starts: &[usize], firsts: &[usize], w: usize) -> usize
 #[tactic(auto, using(crate::proofs::Sets::for_face_in_walk))]
 fn face_in_walk(s: &[i16], starts: &[usize], firsts: &[usize], faces: &[usize], w: usize) -> usize
     requires known { Known s.now starts.now firsts.now × WalkFaces s.now w faces.now }
-    requires w_bound { (w < record_count s.now) × (start_of s.now w ≡ w) }
+    requires starting { (w < record_count s.now) × (start_of s.now w ≡ w) }
     ensures { result ≡ face_of s.now w }
 {
     let n = s.len() / WIDTH;
@@ -157,7 +157,7 @@ fn write_labels(s: &[i16], starts: &[usize], firsts: &[usize], labels: &mut [u16
 #[tactic(auto, using(crate::proofs::Sets::for_kind_of))]
 fn kind_of(s: &[i16], starts: &[usize], firsts: &[usize], i: usize) -> u16
     requires known { Known s.now starts.now firsts.now × (i < record_count s.now) }
-    requires i_value { is_first s.now i ≡ true }
+    requires first { is_first s.now i ≡ true }
     ensures { result ≡ kind_of s.now i }
 {
     if is_first_outer(s, starts, firsts, i) {
@@ -170,7 +170,7 @@ fn kind_of(s: &[i16], starts: &[usize], firsts: &[usize], i: usize) -> u16
 #[tactic(auto, using(crate::proofs::FillLaws::cycle_start, crate::proofs::Sets::for_face_of))]
 fn face_of(s: &[i16], starts: &[usize], firsts: &[usize], faces: &[usize], i: usize) -> usize
     requires known { Known s.now starts.now firsts.now × WalkFaces s.now (record_count s.now) faces.now }
-    requires i_bound { i < record_count s.now }
+    requires there { i < record_count s.now }
     ensures { Numbered s.now (face_of s.now i) result }
 {
     let w = starts[i];
@@ -189,8 +189,8 @@ fn put_cycle(
     m: usize,
 )
     requires known { Known s.now starts.now firsts.now × WalkFaces s.now (record_count s.now) faces.now }
-    requires i_bound { (i < record_count s.now) × (is_first s.now i ≡ true) }
-    requires m_in_bounds { 2 * m + 2 ≤ length cycles.old }
+    requires first { (i < record_count s.now) × (is_first s.now i ≡ true) }
+    requires room { 2 * m + 2 ≤ length cycles.old }
     ensures { cycles.new ≡ with_cycle s.now i cycles.old m }
 {
     let face = face_of(s, starts, firsts, faces, i);
@@ -201,7 +201,7 @@ fn put_cycle(
 #[tactic(auto, using(crate::proofs::EntryLaws::entered_all, crate::proofs::Sets::for_write_cycles))]
 fn write_cycles(s: &[i16], starts: &[usize], firsts: &[usize], faces: &[usize], cycles: &mut [u16])
     requires known { Known s.now starts.now firsts.now × WalkFaces s.now (record_count s.now) faces.now }
-    requires s_in_bounds { 2 * cycle_count s.now ≤ length cycles.old }
+    requires room { 2 * cycle_count s.now ≤ length cycles.old }
     ensures { cycles.new
         ≡ cycle_list s.now ++ drop (2 * cycle_count s.now) cycles.old }
 {

@@ -118,7 +118,7 @@ fn take_second(op: Op, a: &[i16], b: &[i16], j: usize, out: &mut [i16], n: usize
 #[tactic(auto, using(crate::proofs::WriteLaws::left, crate::proofs::WriteLaws::writing, crate::proofs::Sets::for_write))]
 fn write(op: Op, a: &[i16], b: &[i16], out: &mut [i16])
     requires region { Region a.now × Region b.now }
-    requires b_in_bounds { width * length (result_of op a.now b.now) ≤ length out.old }
+    requires room { width * length (result_of op a.now b.now) ≤ length out.old }
     ensures { out.new ≡ written op a.now b.now out.old }
 {
     let mut i = 0;
