@@ -24,7 +24,7 @@ pub enum FaceList {
 // ---- cycles
 
 // How many of the first n records are the first of their cycle.
-#[tactic(auto, using(counts::proofs::LoopLaws::counted_none, crate::proofs::Sets::for_count_firsts))]
+#[tactic(auto, using(counts::proofs::LoopLaws::counted_none, crate::proofs::Sets::firsts))]
 fn count_firsts(s: &[i16], starts: &[usize], firsts: &[usize], n: usize) -> usize
     requires { Known s.now starts.now firsts.now × (n ≤ record_count s.now) }
     ensures { Numbered s.now (count (is_first s.now) (places n)) result }
@@ -45,7 +45,7 @@ fn count_firsts(s: &[i16], starts: &[usize], firsts: &[usize], n: usize) -> usiz
 
 // Whether record i is the first of an outer cycle: the first record of a cycle has mark 1 exactly if the cycle is
 // outer.
-#[tactic(auto, using(crate::proofs::Sets::for_is_first_outer), unfolding(grid::specs::Coordinates::up))]
+#[tactic(auto, using(crate::proofs::Sets::outer), unfolding(grid::specs::Coordinates::up))]
 fn is_first_outer(s: &[i16], starts: &[usize], firsts: &[usize], i: usize) -> bool
     requires { Known s.now starts.now firsts.now × (i < record_count s.now) }
     ensures { result ≡ first_outer s.now i }
@@ -56,7 +56,7 @@ fn is_first_outer(s: &[i16], starts: &[usize], firsts: &[usize], i: usize) -> bo
 }
 
 // How many of the first n records are the first of an outer cycle.
-#[tactic(auto, using(counts::proofs::StepLaws::summing, crate::proofs::Sets::for_count_outers))]
+#[tactic(auto, using(counts::proofs::StepLaws::summing, crate::proofs::Sets::outers))]
 fn count_outers(s: &[i16], starts: &[usize], firsts: &[usize], n: usize) -> usize
     requires { Known s.now starts.now firsts.now × (n ≤ record_count s.now) }
     ensures { Numbered s.now (face_number s.now n) result }
@@ -73,7 +73,7 @@ fn count_outers(s: &[i16], starts: &[usize], firsts: &[usize], n: usize) -> usiz
 }
 
 // Whether record i is the first of an outer cycle of the walk that starts at w.
-#[tactic(auto, using(crate::proofs::Sets::for_is_outer_in))]
+#[tactic(auto, using(crate::proofs::Sets::outer_here))]
 fn is_outer_in(s: &[i16], starts: &[usize], firsts: &[usize], w: usize, i: usize) -> bool
     requires { Known s.now starts.now firsts.now × (i < record_count s.now) }
     ensures { result ≡ first_outer s.now i && eqb (start_of s.now i) w }
@@ -83,7 +83,7 @@ fn is_outer_in(s: &[i16], starts: &[usize], firsts: &[usize], w: usize, i: usize
 }
 
 // The first record of the outer cycle of the walk that starts at w; the number of records where it has none.
-#[tactic(auto, using(counts::proofs::StepLaws::looking, crate::proofs::Sets::for_outer_in))]
+#[tactic(auto, using(counts::proofs::StepLaws::looking, crate::proofs::Sets::found_outer))]
 fn outer_in(s: &[i16], starts: &[usize], firsts: &[usize], w: usize) -> usize
     requires { Known s.now starts.now firsts.now }
     ensures { Numbered s.now (outer_in s.now w) result }
@@ -101,7 +101,7 @@ fn outer_in(s: &[i16], starts: &[usize], firsts: &[usize], w: usize) -> usize
 
 // The face of the walk that starts at w: that of its outer cycle; else that of the walk of the segment nearest below
 // its smallest point, which starts earlier.
-#[tactic(auto, using(crate::proofs::Sets::for_face_in_walk))]
+#[tactic(auto, using(crate::proofs::Sets::below))]
 fn face_in_walk(s: &[i16], starts: &[usize], firsts: &[usize], faces: &[usize], w: usize) -> usize
     requires known { Known s.now starts.now firsts.now × WalkFaces s.now w faces.now }
     requires starting { (w < record_count s.now) × (start_of s.now w ≡ w) }
@@ -118,7 +118,7 @@ fn face_in_walk(s: &[i16], starts: &[usize], firsts: &[usize], faces: &[usize], 
     faces[v]
 }
 
-#[tactic(auto, using(crate::proofs::FillLaws::fill_none, crate::proofs::FillLaws::fill_start, crate::proofs::Sets::for_fill_faces))]
+#[tactic(auto, using(crate::proofs::FillLaws::fill_none, crate::proofs::FillLaws::fill_start, crate::proofs::Sets::filling))]
 fn fill_faces(s: &[i16], starts: &[usize], firsts: &[usize], faces: &mut [usize])
     requires { Known s.now starts.now firsts.now × (record_count s.now ≤ length faces.old) }
     ensures { WalkFaces s.now (record_count s.now) faces.new }
@@ -137,7 +137,7 @@ fn fill_faces(s: &[i16], starts: &[usize], firsts: &[usize], faces: &mut [usize]
 
 // ---- writing
 
-#[tactic(auto, using(crate::proofs::Sets::for_write_labels))]
+#[tactic(auto, using(crate::proofs::Sets::labelling))]
 fn write_labels(s: &[i16], starts: &[usize], firsts: &[usize], labels: &mut [u16])
     requires { Known s.now starts.now firsts.now × (record_count s.now ≤ length labels.old) }
     ensures { labels.new
@@ -154,7 +154,7 @@ fn write_labels(s: &[i16], starts: &[usize], firsts: &[usize], labels: &mut [u16
 }
 
 // 0 for an outer cycle or 1 for a hole, by its first record.
-#[tactic(auto, using(crate::proofs::Sets::for_kind_of))]
+#[tactic(auto, using(crate::proofs::Sets::kinds))]
 fn kind_of(s: &[i16], starts: &[usize], firsts: &[usize], i: usize) -> u16
     requires known { Known s.now starts.now firsts.now × (i < record_count s.now) }
     requires first { is_first s.now i ≡ true }
@@ -167,7 +167,7 @@ fn kind_of(s: &[i16], starts: &[usize], firsts: &[usize], i: usize) -> u16
 }
 
 // The face of the cycle of record i: that of its walk.
-#[tactic(auto, using(crate::proofs::FillLaws::cycle_start, crate::proofs::Sets::for_face_of))]
+#[tactic(auto, using(crate::proofs::FillLaws::cycle_start, crate::proofs::Sets::cycle_faces))]
 fn face_of(s: &[i16], starts: &[usize], firsts: &[usize], faces: &[usize], i: usize) -> usize
     requires known { Known s.now starts.now firsts.now × WalkFaces s.now (record_count s.now) faces.now }
     requires there { i < record_count s.now }
@@ -178,7 +178,7 @@ fn face_of(s: &[i16], starts: &[usize], firsts: &[usize], faces: &[usize], i: us
 }
 
 // The two numbers of the cycle whose first record is i become those of cycle m of the array.
-#[tactic(auto, using(crate::proofs::Sets::for_put_cycle))]
+#[tactic(auto, using(crate::proofs::Sets::put))]
 fn put_cycle(
     s: &[i16],
     starts: &[usize],
@@ -198,7 +198,7 @@ fn put_cycle(
     cycles[2 * m + 1] = face as u16;
 }
 
-#[tactic(auto, using(crate::proofs::EntryLaws::entered_all, crate::proofs::Sets::for_write_cycles))]
+#[tactic(auto, using(crate::proofs::EntryLaws::entered_all, crate::proofs::Sets::entering))]
 fn write_cycles(s: &[i16], starts: &[usize], firsts: &[usize], faces: &[usize], cycles: &mut [u16])
     requires known { Known s.now starts.now firsts.now × WalkFaces s.now (record_count s.now) faces.now }
     requires room { 2 * cycle_count s.now ≤ length cycles.old }
@@ -230,7 +230,7 @@ fn too_short() -> FaceList
 }
 
 // Of a chart that is accepted. Nothing is written before it is known that all of it can be.
-#[tactic(auto, using(crate::proofs::Sets::for_list_sound))]
+#[tactic(auto, using(crate::proofs::Sets::listing))]
 fn list_sound(
     s: &[i16],
     starts: &[usize],
@@ -262,7 +262,7 @@ fn list_sound(
 
 // The faces and holes of a chart: the cycle number of each record into the first array, two numbers per cycle into the
 // second.
-#[tactic(auto, using(crate::proofs::Sets::for_faces))]
+#[tactic(auto, using(crate::proofs::Sets::answering))]
 pub fn faces(chart: &[i16], labels: &mut [u16], cycles: &mut [u16]) -> FaceList
     ensures { Lists chart.now labels.old cycles.old
         labels.new cycles.new result }

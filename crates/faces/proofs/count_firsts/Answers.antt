@@ -1,9 +1,8 @@
 use Rattle.std.proofs.Common.{rules}
-use Rattle.counts.proofs.LoopLaws.{counted_none}
-use Rattle.faces.proofs.NumberLaws.{firsts-yes, firsts-no, firsts-numbered}
+use Rattle.faces.proofs.NumberLaws.{firsts-yes, firsts-no}
 use Rattle.faces.proofs.count_firsts.Goals as goal
 use Rattle.faces.proofs.count_firsts.Goals.{then-f-i, else-f-i}
 
 pub loop-i-preserved : goal.loop-i-preserved
 loop-i-preserved c =
-    elim c.if-f-i.branch [ then-f-i w ↦ search (rules, counted_none, firsts-yes, firsts-no, firsts-numbered) | else-f-i w ↦ search (rules, counted_none, firsts-yes, firsts-no, firsts-numbered) ]
+    elim c.if-f-i.branch [ then-f-i w ↦ search (rules, firsts-yes) | else-f-i w ↦ search (rules, firsts-no) ]

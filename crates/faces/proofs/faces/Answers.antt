@@ -1,7 +1,6 @@
 use Rattle.std.proofs.Common.{rules}
-use Rattle.faces.proofs.CircledLaws.{known-circled}
-use Rattle.faces.proofs.ListLaws.{lists-accepted, lists-refused}
+use Rattle.faces.proofs.ListLaws.{lists-accepted}
 use Rattle.faces.proofs.faces.Goals as goal
 
 pub returns-in-Accepted : goal.returns-in-Accepted
-returns-in-Accepted c = search (rules, known-circled, lists-accepted, lists-refused)
+returns-in-Accepted c = search (rules, lists-accepted)

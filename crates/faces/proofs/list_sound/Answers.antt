@@ -1,6 +1,6 @@
 use Rattle.std.proofs.Common.{rules}
-use Rattle.faces.proofs.ListLaws.{short-labels, short-cycles, listed-both}
+use Rattle.faces.proofs.ListLaws.{listed-both}
 use Rattle.faces.proofs.list_sound.Goals as goal
 
 pub returns : goal.returns
-returns c = search (rules, short-labels, short-cycles, listed-both)
+returns c = search (rules, listed-both)
