@@ -11,7 +11,7 @@ use mathlib.Core.Bool.{and-true, beq}
 use native.Mathlib.Nat.{div-le_of_le-mul}
 use lib.Pow.{pow-lt}
 use lib.Signed.{mag}
-use lib.Ieee.{Float, fin, binary64, up, down, fits, level, eq, unlike, mul, round, of_int, to_signed}
+use lib.Ieee.{Float, nan, inf, fin, binary64, up, down, fits, level, eq, unlike, mul, round, of_int, to_signed}
 use lib.Ieee.Digits.{back}
 use lib.Ieee.Fits.{down_pos, and_l, and_r}
 use lib.Ieee.Exact.{HasValue, round_exact}
@@ -143,9 +143,13 @@ level-rest s n d = go (eqb (n % d) 0) refl
 
 pub castable : (x : Float) → fits binary64 x ≡ true → Within x → Castable (mul binary64 x scale)
 castable (fin s m e) t w = castable-number s m e (rw t tt) w
+castable nan t w = elim w [ ]
+castable (inf _) t w = elim w [ ]
 
 cut-units : (x : Float) → fits binary64 x ≡ true → Within x → to_signed 63 (mul binary64 x scale) ≡ units x
 cut-units (fin s m e) t w = cut-number s m e (rw t tt) w
+cut-units nan t w = elim w [ ]
+cut-units (inf _) t w = elim w [ ]
 
 level-near : (x : Float) → fits binary64 x ≡ true → Within x
     → eq (of_int binary64 (units x)) (mul binary64 x scale) ≡ is_near x
@@ -158,6 +162,8 @@ level-near (fin s m e) t w =
     (mul binary64 (fin s m e) scale) (whole-value s q (omega (arith, l))) (times s m e (rw t tt) w)
     ∙ level-rest s n (down e)
     ∙ rw (le-leb q 16777216 l) (sym (and-true (eqb (n % down e) 0)))
+level-near nan t w = elim w [ ]
+level-near (inf _) t w = elim w [ ]
 
 -- r is what the cast to 64 bits gave, and y its float again
 module _ (x : Float) (t : fits binary64 x ≡ true) (w : Within x)

@@ -45,6 +45,8 @@ unfolding to_bits
 value-bits f (fin u m e) s a c C v =
     let scaled : m * up e * 2 ^ low f * c ≡ a * 2 ^ low f * down e = omega (arith, ap (λ n. n * 2 ^ low f) v.1) in
     rw (v.0, div_same (m * up e * 2 ^ low f) (down e) (a * 2 ^ low f) c (down_pos e) C scaled)
+value-bits f nan s a c C v = elim v [ ]
+value-bits f (inf _) s a c C v = elim v [ ]
 
 pub value-one : {x y : Float} (s : Bool) (a c : ℕ) → 0 < c → fits binary64 x ≡ true → fits binary64 y ≡ true
     → HasValue x s a c → HasValue y s a c → x ≡ y
@@ -63,14 +65,20 @@ module _ (s : Bool) (n : ℕ) where
   unfolding is_multiple
   value-multiple (fin u m e) v =
       eq-eqb (in_units m e % down e) 0 (ap (λ k. k % down e) v.1 ∙ mul-mod_left n (down e))
+  value-multiple nan v = elim v [ ]
+  value-multiple (inf _) v = elim v [ ]
 
   pub value-size : (x : Float) → HasValue x s n 256 → size x ≡ n
   unfolding size
   value-size (fin u m e) v = ap (λ k. k / down e) v.1 ∙ mul-div_cancel n (down_pos e)
+  value-size nan v = elim v [ ]
+  value-size (inf _) v = elim v [ ]
 
   pub value-minus : (x : Float) → HasValue x s n 256 → has_minus x ≡ s
   unfolding has_minus
   value-minus (fin u m e) v = v.0
+  value-minus nan v = elim v [ ]
+  value-minus (inf _) v = elim v [ ]
 
 module _ {x : Float} {z : ℤ} (p : Exactly x z) where
   pub exactly-size : size x ≡ nat_abs z

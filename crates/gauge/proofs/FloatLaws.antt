@@ -10,7 +10,7 @@
 use Rattle.std.proofs.Common.{◌≡◌, ℕ, ◌+◌, ◌-◌, ◌*◌, ◌/◌, ◌^◌, ◌<◌, ◌≤◌, min, Bool, true, false, not, ◌&&◌, ◌||◌, T, eqb, ltb, ℤ, pos, sym, refl, ap, ◌∙◌, ap₂, lt_of_lt_of_le, mul_assoc, lt_of_mul-lt-mul_right, mul-lt-mul_of_pos_right, mul-pos, arith, lit<, lit≤, pow_mono, shl_lt, ltb-true, lt-ltb, eq-eqb, eqb-true}
 use native.Mathlib.Nat.{mul-sub}
 use native.Mathlib.Nat.{eq_of_mul-eq-mul_right}
-use lib.Ieee.{Float, fin, Format, binary64, up, down, below, level, unlike}
+use lib.Ieee.{Float, nan, inf, fin, Format, binary64, up, down, below, level, unlike}
 use lib.Ieee.{lt, le, eq, neg, add, sub, sum, mul, round, to_signed}
 use lib.Ieee.Fits.{down_pos}
 use lib.Ieee.Exact.{HasValue, round_exact}
@@ -100,6 +100,10 @@ module _ (s t : Bool) (a c b d : ℕ) (P : Float → Float → Type 0) where
 
   of-numbers : OfNumbers → (x y : Float) → HasValue x s a c → HasValue y t b d → P x y
   of-numbers h (fin u m e) (fin r n g) v w = rw (v.0, w.0) (h m e n g v.1 w.1)
+  of-numbers h nan y v w = elim v [ ]
+  of-numbers h (inf _) y v w = elim v [ ]
+  of-numbers h (fin u m e) nan v w = elim w [ ]
+  of-numbers h (fin u m e) (inf _) v w = elim w [ ]
 
 module _ (s t : Bool) (a c b d : ℕ) (C : 0 < c) (D : 0 < d) where
   crossed : (m : ℕ) (e : ℤ) (n : ℕ) (g : ℤ) → m * up e * c ≡ a * down e → n * up g * d ≡ b * down g
@@ -155,6 +159,8 @@ module _ (s t : Bool) (a b c : ℕ) (C : 0 < c) where
 neg_value : (s : Bool) (a c : ℕ) (x : Float) → HasValue x s a c → HasValue (neg x) (not s) a c
 unfolding neg
 neg_value s a c (fin u m e) v = (ap not v.0, v.1)
+neg_value s a c nan v = elim v [ ]
+neg_value s a c (inf _) v = elim v [ ]
 
 pub sub-value : (s t : Bool) (a b c : ℕ) → 0 < c → (f : Format) (x y : Float) → HasValue x s a c → HasValue y t b c
     → sub f x y ≡ sum f s a (not t) b c
@@ -172,6 +178,8 @@ unfolding to_signed
 cut-value s a c C h (fin u m e) v =
     let quotient : m * up e / down e ≡ a / c = div_same (m * up e) (down e) a c (down_pos e) C v.1 in
     rw (v.0, quotient, min-left (a / c) (2 ^ 63) (omega arith), min-left (a / c) (2 ^ 63 - 1) (omega arith))
+cut-value s a c C h nan v = elim v [ ]
+cut-value s a c C h (inf _) v = elim v [ ]
 
 -- what the cast without a fraction asks for
 abbrev pub Castable : Float → Type 0

@@ -6,4 +6,5 @@ pub mod CardLaws
 pub mod PressureLaws
 pub mod ReadingLaws
 pub mod RuleLaws
-pub mod Sets
+pub mod Plain
+pub mod Tactics

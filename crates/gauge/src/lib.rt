@@ -44,7 +44,7 @@ struct Units {
 
 // A multiple of 1/256 from -65,536 to 65,536, in 256ths. A NaN fails both comparisons. Times 256 is exact, and the
 // whole part, as a float again, is that product only where nothing was cut off.
-#[tactic(auto, using(crate::proofs::RangeLaws::within, crate::proofs::RangeLaws::beyond, crate::proofs::CutLaws::castable, crate::proofs::CutLaws::counted, crate::proofs::CutLaws::left_over, crate::proofs::CutLaws::uncounted))]
+#[tactic(auto, using(crate::proofs::Tactics::cuts))]
 fn units_of(x: f64) -> Units
     ensures { Counts x result }
 {
@@ -85,7 +85,7 @@ fn first_power(n: u64) -> u64
 }
 
 // Whether it may be a rate or a gain.
-#[tactic(auto, using(crate::proofs::Sets::for_is_factor))]
+#[tactic(auto, using(crate::proofs::Tactics::factor_counts))]
 fn is_factor(x: f64) -> bool
     ensures { result ≡ is_factor x }
 {
@@ -96,7 +96,7 @@ fn is_factor(x: f64) -> bool
     u.whole & (first_power(u.count as u64) < POWERS)
 }
 
-#[tactic(auto, using(crate::proofs::Sets::for_is_pin))]
+#[tactic(auto, using(crate::proofs::Tactics::pin_counts))]
 fn is_pin(x: f64) -> bool
     ensures { result ≡ is_pin x }
 {
@@ -123,7 +123,7 @@ fn is_sound(card: Card) -> bool
 
 // ---- the pressure, by the floats' own operations, which are exact here
 
-#[tactic(auto, using(crate::proofs::Sets::for_product))]
+#[tactic(auto, using(crate::proofs::Tactics::products))]
 fn product(sample: i16, factor: f64) -> f64
     requires { is_factor factor ≡ true }
     ensures { Exactly result (sample *ℤ units factor) }
@@ -131,15 +131,16 @@ fn product(sample: i16, factor: f64) -> f64
     (sample as f64) * factor
 }
 
-#[tactic(auto, using(crate::proofs::PressureLaws::product_small, crate::proofs::Sets::for_difference))]
+#[tactic(auto, using(crate::proofs::Tactics::differences))]
 fn difference(sample: i16, gain: f64, zero: f64) -> f64
-    requires { (is_factor gain ≡ true) × (is_zero zero ≡ true) }
+    requires gain_is { is_factor gain ≡ true }
+    requires zero_is { is_zero zero ≡ true }
     ensures { Exactly result (sample *ℤ units gain -ℤ units zero) }
 {
     product(sample, gain) - zero
 }
 
-#[tactic(auto, using(crate::proofs::Sets::for_pressure_of), unfolding(crate::specs::Readings::pressure))]
+#[tactic(auto, using(crate::proofs::Tactics::pressures), unfolding(crate::specs::Readings::pressure))]
 fn pressure_of(card: Card, sample: i16) -> f64
     requires { sound card ≡ true }
     ensures { Exactly result (pressure card sample) }
@@ -152,17 +153,19 @@ fn pressure_of(card: Card, sample: i16) -> f64
 
 // ---- 22: at the pin
 
-#[tactic(auto, using(crate::proofs::CardLaws::from_is, crate::proofs::Sets::for_is_past))]
+#[tactic(auto, using(crate::proofs::Tactics::pasts))]
 fn is_past(sample: i16, p: f64, pin: f64) -> bool
-    requires { Exactly p (units p) × (is_pin pin ≡ true) }
+    requires exact { Exactly p (units p) }
+    requires pin_is { is_pin pin ≡ true }
     ensures { result ≡ (int_lt sample (pos 0) || int_le (units pin) (units p)) }
 {
     (sample < 0) | (p >= pin)
 }
 
-#[tactic(auto, using(crate::proofs::Sets::for_is_at_pin))]
+#[tactic(auto, using(crate::proofs::Tactics::pins), unfolding(crate::specs::Readings::at_pin))]
 fn is_at_pin(card: Card, sample: i16, p: f64) -> bool
-    requires { (sound card ≡ true) × Exactly p (pressure card sample) }
+    requires card_sound { sound card ≡ true }
+    requires exact { Exactly p (pressure card sample) }
     ensures { result ≡ at_pin card sample }
 {
     match card {
@@ -174,7 +177,7 @@ fn is_at_pin(card: Card, sample: i16, p: f64) -> bool
 // ---- 23: the row would leave the grid
 
 // The row of a pressure, wider than the grid, so that it cannot wrap. The one place that drops a fraction.
-#[tactic(auto, using(crate::proofs::ExactLaws::castable, crate::proofs::Sets::for_row_of), unfolding(crate::specs::Readings::row))]
+#[tactic(auto, using(crate::proofs::Tactics::rows), unfolding(crate::specs::Readings::row))]
 fn row_of(p: f64) -> i64
     requires { Whole p }
     ensures { result ≡ row (units p) }
@@ -203,7 +206,7 @@ fn refused(number: u16) -> Gauged
 }
 
 // A sample by a sound card.
-#[tactic(auto, using(crate::proofs::ReadingLaws::return_read, crate::proofs::Sets::for_read_sound))]
+#[tactic(auto, using(crate::proofs::Tactics::reads))]
 fn read_sound(card: Card, sample: i16) -> Gauged
     requires { sound card ≡ true }
     ensures { Gauges card sample result }
@@ -228,7 +231,7 @@ fn read_sound(card: Card, sample: i16) -> Gauged
 }
 
 // Turns a sample into a pressure and a grid row.
-#[tactic(auto, using(crate::proofs::Sets::for_read_sample))]
+#[tactic(auto, using(crate::proofs::Tactics::returned))]
 pub fn read_sample(card: Card, sample: i16) -> Gauged
     ensures { Gauges card sample result }
 {
