@@ -2,4 +2,3 @@ pub mod NumberLaws
 pub mod GroupLaws
 pub mod SignedLaws
 pub mod SizeLaws
-pub mod Sets

@@ -33,7 +33,6 @@ fn bits_of(b: u8) -> u32
 }
 
 // A last group after another, and the number that it ends. A zero adds nothing: there is a shorter form.
-#[tactic(auto, using(crate::proofs::GroupLaws::grouping))]
 fn last_group(b: u8, value: u32, at: usize, next: usize) -> Number
     ensures { result ≡ last_group b value at next }
 {
@@ -96,7 +95,7 @@ pub fn take_number(bytes: &[u8], at: usize) -> Number
 }
 
 // The signed number that n stands for.
-#[tactic(auto, using(crate::proofs::SignedLaws::signed_odd, crate::proofs::Sets::for_signed_of))]
+#[tactic(auto, unfolding(crate::specs::Numbers::signed))]
 pub fn signed_of(n: u32) -> i64
     ensures { result ≡ signed n }
 {
