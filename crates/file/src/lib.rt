@@ -53,7 +53,7 @@ fn unfit(at: usize) -> Field
     })
 }
 
-#[tactic(auto, using(crate::proofs::FieldLaws::fielding))]
+#[tactic(auto, unfolding(crate::specs::Fields::coordinate, grid::specs::Coordinates::located))]
 fn coordinate_of(n: u32, at: usize, next: usize) -> Field
     ensures { result ≡ coordinate n at next }
 {
@@ -64,7 +64,6 @@ fn coordinate_of(n: u32, at: usize, next: usize) -> Field
     }
 }
 
-#[tactic(auto, using(crate::proofs::FieldLaws::fielding))]
 fn mark_of(n: u32, at: usize, next: usize) -> Field
     ensures { result ≡ mark n at next }
 {
@@ -78,7 +77,7 @@ fn mark_of(n: u32, at: usize, next: usize) -> Field
 }
 
 // What the number n of the file is at the place k of the array.
-#[tactic(auto, using(crate::proofs::FieldLaws::fielding))]
+#[tactic(auto, unfolding(crate::specs::Fields::field))]
 fn field_of(k: usize, n: u32, at: usize, next: usize) -> Field
     ensures { result ≡ field k n at next }
 {
@@ -88,7 +87,6 @@ fn field_of(k: usize, n: u32, at: usize, next: usize) -> Field
     coordinate_of(n, at, next)
 }
 
-#[tactic(auto, using(crate::proofs::FieldLaws::fielding))]
 fn field_at(bytes: &[u8], k: usize, at: usize) -> Field
     ensures { result ≡ field_at bytes.now k at }
 {
@@ -172,7 +170,7 @@ fn read_records(bytes: &[u8], n: usize, from: usize, out: &mut [i16]) -> Answer
 }
 
 // Reads a chart file into the lent array. Judges the file's form only, not the chart.
-#[tactic(auto, using(crate::proofs::FileLaws::reading))]
+#[tactic(auto, unfolding(crate::specs::Files::file_of))]
 pub fn read(bytes: &[u8], out: &mut [i16]) -> Answer
     ensures { Reads bytes.now out.old out.new result }
 {
