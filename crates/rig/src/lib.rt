@@ -1,6 +1,6 @@
 // The boundary for C and Rust (include/berzulka.h, rust/): each question of the controller's under a plain name. Each
-// asks the proved function of its crate and packs what that answers into one number. Callers check nothing.
-// A slice is passed as a pointer and a length, in elements.
+// asks the proved function of its crate and packs what that answers into one number. Callers check nothing. The crate
+// rig_c exports each of them.
 #![tactic(auto)]
 
 ghost use Rattle.std.specs.Prelude.{◌≡◌, ◌+◌, ◌*◌, ◌^◌, ◌<◌};
@@ -66,8 +66,7 @@ fn pack_place(a: Place) -> u64
 
 // 0 where the chart is accepted.
 #[tactic(auto, using(crate::proofs::Sets::for_bz_check))]
-#[unsafe(no_mangle)]
-pub extern "C" fn bz_check(chart: &[i16]) -> u64
+pub fn bz_check(chart: &[i16]) -> u64
     ensures { result ≡ check_answer (verdict chart.now) }
 {
     let v = chart::check(chart);
@@ -78,8 +77,7 @@ pub extern "C" fn bz_check(chart: &[i16]) -> u64
 }
 
 #[tactic(auto, using(crate::proofs::Sets::for_bz_point))]
-#[unsafe(no_mangle)]
-pub extern "C" fn bz_point(chart: &[i16], x: i16, y: i16) -> u64
+pub fn bz_point(chart: &[i16], x: i16, y: i16) -> u64
     ensures { result ≡ point_answer (placed chart.now (point_of x y)) }
 {
     pack_place(question::point(chart, x, y))
@@ -87,8 +85,7 @@ pub extern "C" fn bz_point(chart: &[i16], x: i16, y: i16) -> u64
 
 // The run's start in the lower half and its length in the upper, in numbers; 0 where it is empty. It gives no refusal.
 #[tactic(auto, using(crate::proofs::Sets::for_bz_corner), unfolding(crate::specs::Answers::corner_answer))]
-#[unsafe(no_mangle)]
-pub extern "C" fn bz_corner(chart: &[i16], x: i16, y: i16) -> u64
+pub fn bz_corner(chart: &[i16], x: i16, y: i16) -> u64
     ensures { result ≡ corner_answer (corner_of chart.now (point_of x y)) }
 {
     let run = question::corner_of(chart, x, y);
@@ -98,8 +95,7 @@ pub extern "C" fn bz_corner(chart: &[i16], x: i16, y: i16) -> u64
 }
 
 // Kind 0 where neither array has a whole record, 1 for the first array's head, 2 for the second's.
-#[unsafe(no_mangle)]
-pub extern "C" fn bz_head(a: &[i16], b: &[i16]) -> u64
+pub fn bz_head(a: &[i16], b: &[i16]) -> u64
     ensures { result ≡ head_answer (head_of a.now b.now) }
 {
     let h = parts::head_of(a, b);
@@ -112,8 +108,7 @@ pub extern "C" fn bz_head(a: &[i16], b: &[i16]) -> u64
 
 // Twice the area goes to `out`, which stays as it is where the chart is refused.
 #[tactic(auto, using(crate::proofs::AnswerLaws::area_small, crate::proofs::Sets::for_bz_area2))]
-#[unsafe(no_mangle)]
-pub extern "C" fn bz_area2(chart: &[i16], out: &mut i64) -> u64
+pub fn bz_area2(chart: &[i16], out: &mut i64) -> u64
     ensures value { result ≡ area_answer (area_of chart.now) }
     ensures out_after { out.new ≡ area_left (area_of chart.now) out.old }
 {
@@ -143,8 +138,7 @@ fn pack_faces(a: FaceList) -> u64
 // The cycle number of each record goes to `labels`, two numbers per cycle to `cycles`; both stay as they are where the
 // chart or the arrays are refused.
 #[tactic(auto, using(crate::proofs::Sets::for_bz_faces))]
-#[unsafe(no_mangle)]
-pub extern "C" fn bz_faces(chart: &[i16], labels: &mut [u16], cycles: &mut [u16]) -> u64
+pub fn bz_faces(chart: &[i16], labels: &mut [u16], cycles: &mut [u16]) -> u64
     ensures { FacesListed chart.now labels.old cycles.old
         labels.new cycles.new result }
 {
@@ -166,24 +160,21 @@ fn pack_joined(j: Joined) -> u64
 
 // The result goes to `out`, which stays as it is where joining is refused; so it is of the two after it.
 #[tactic(auto, using(crate::proofs::Sets::for_bz_union))]
-#[unsafe(no_mangle)]
-pub extern "C" fn bz_union(a: &[i16], b: &[i16], out: &mut [i16]) -> u64
+pub fn bz_union(a: &[i16], b: &[i16], out: &mut [i16]) -> u64
     ensures { Combines Union a.now b.now out.old out.new result }
 {
     pack_joined(combine(Op::Union, a, b, out))
 }
 
 #[tactic(auto, using(crate::proofs::Sets::for_bz_intersection))]
-#[unsafe(no_mangle)]
-pub extern "C" fn bz_intersection(a: &[i16], b: &[i16], out: &mut [i16]) -> u64
+pub fn bz_intersection(a: &[i16], b: &[i16], out: &mut [i16]) -> u64
     ensures { Combines Intersection a.now b.now out.old out.new result }
 {
     pack_joined(combine(Op::Intersection, a, b, out))
 }
 
 #[tactic(auto, using(crate::proofs::Sets::for_bz_difference))]
-#[unsafe(no_mangle)]
-pub extern "C" fn bz_difference(a: &[i16], b: &[i16], out: &mut [i16]) -> u64
+pub fn bz_difference(a: &[i16], b: &[i16], out: &mut [i16]) -> u64
     ensures { Combines Difference a.now b.now out.old out.new result }
 {
     pack_joined(combine(Op::Difference, a, b, out))
@@ -222,8 +213,7 @@ fn gauged(kind: u8, first: f64, second: f64, sample: i16) -> Gauged
 
 // Pressure and row are always written.
 #[tactic(auto, using(crate::proofs::Sets::for_bz_gauge))]
-#[unsafe(no_mangle)]
-pub extern "C" fn bz_gauge(
+pub fn bz_gauge(
     kind: u8,
     first: f64,
     second: f64,
@@ -245,8 +235,7 @@ pub extern "C" fn bz_gauge(
 
 // How many records were read; `out` stays as it is where the file is refused.
 #[tactic(auto, using(crate::proofs::Sets::for_bz_read))]
-#[unsafe(no_mangle)]
-pub extern "C" fn bz_read(bytes: &[u8], out: &mut [i16]) -> u64
+pub fn bz_read(bytes: &[u8], out: &mut [i16]) -> u64
     ensures { FileRead bytes.now out.old out.new result }
 {
     let a = file::read(bytes, out);
