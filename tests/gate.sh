@@ -11,9 +11,8 @@ failed=0
 # The copy: the lowest crate, listed, with its definitions and no laws.
 fresh() {
     rm -rf "$repo"
-    mkdir -p "$repo/crates"
-    cp -r crates/counts "$repo/crates/"
-    rm "$repo"/crates/counts/proofs/*
+    mkdir -p "$repo/crates/counts/proofs"
+    cp -r crates/counts/src crates/counts/specs "$repo/crates/counts/"
     : > "$repo/crates/counts/proofs/Lib.antt"
     echo 'counts:' > "$repo/crates.txt"
 }
@@ -22,6 +21,18 @@ fresh() {
 law() {
     cat > "$repo/crates/counts/proofs/$1.antt"
     echo "pub mod $1" >> "$repo/crates/counts/proofs/Lib.antt"
+}
+
+# The copy with a law and an edit of it, from the one text to the other.
+with_edit() {
+    law SumLaws << 'ANTT'
+use Rattle.std.specs.Prelude.{◌≡◌, ◌+◌, refl}
+
+pub two : 1 + 1 ≡ 2
+two = refl
+ANTT
+    mkdir -p "$repo/crates/counts/must-fail"
+    printf 'file: proofs/SumLaws.antt\nold: %s\nnew: %s\n' "$1" "$2" > "$repo/crates/counts/must-fail/two.edit"
 }
 
 # The copy with the gate itself and one test that closes with the given line and status.
@@ -51,11 +62,11 @@ expect() {
 
 # ---- what `rt ci` refuses
 
-lost='in no crate that crates.txt lists'
+lost='no check reads'
 some_failed='[0-9]* passed, [1-9][0-9]* failed'
 
 fresh
-expect ok 'the copy as it is' '1 passed, 0 failed' 'counts proved' rt ci
+expect ok 'the copy as it is' '1 passed, 0 failed' 'counts \(proved\|is kept\)' rt ci
 
 fresh
 mkdir -p "$repo/crates/stray/src"
@@ -68,29 +79,36 @@ expect refused 'a file that no crate has' "$some_failed" "$lost.*crates/counts/S
 
 fresh
 echo 'stray:' >> "$repo/crates.txt"
-expect refused 'a listed crate that is not there' '.*' 'stray' rt ci
+expect refused 'a listed crate that is not there' "$some_failed" 'there is no folder .*crates/stray' rt ci
 
 fresh
 law HoleLaws << 'ANTT'
-use mathlib.Core.Path.{_≡_}
-use Prim.Native.Nat.{ℕ}
+use Rattle.std.specs.Prelude.{◌≡◌, ℕ}
 
 pub hole : (n : ℕ) → n ≡ n
 hole n = ?
 ANTT
-expect refused 'a proof with a hole' "$some_failed" 'HoleLaws' rt ci
+expect refused 'a proof with a hole' "$some_failed" '`hole` is not admitted: has-holes' rt ci
 
 fresh
 law WishLaws << 'ANTT'
-use Prim.Native.Nat.{ℕ, _<_}
+use Rattle.std.specs.Prelude.{ℕ, ◌<◌}
 
 axiom pub wish : (n : ℕ) → n < 0
 ANTT
-expect refused 'an axiom' "$some_failed" 'wish' rt ci
+expect refused 'an axiom' "$some_failed" '`wish` is not admitted: axiom' rt ci
 
 fresh
 printf 'fn less(n: u32) -> u32 {\n    n - 1\n}\n' > "$repo/crates/counts/src/lib.rt"
-expect refused 'a function that is not proved' "$some_failed" 'less' rt ci
+expect refused 'a function that is not proved' "$some_failed" 'counts::less: no proof' rt ci
+
+fresh
+with_edit '1 + 1 ≡ 2' '1 + 1 ≡ 3'
+expect ok 'an edit that is wrong' '2 passed, 0 failed' 'must-fail edits: 1 refused;' rt ci
+
+fresh
+with_edit '1 + 1 ≡ 2' '1 + 2 ≡ 3'
+expect refused 'an edit that is proved' "$some_failed" 'counts/two.edit: NOT REFUSED' rt ci
 
 # ---- what the gate makes of its parts
 
@@ -105,6 +123,14 @@ expect refused 'a test that does not say how it went' '1 passed, 1 failed' 'did 
 
 with_test '2 passed, 0 failed' 3
 expect refused 'a test that ends badly whatever it says' '3 passed, 1 failed' 'ended with status 3' bash .ci/run
+
+with_test '2 passed, 0 failed' 0
+with_edit '1 + 1 ≡ 2' '1 + 1 ≡ 3'
+expect ok 'an edit that is refused' '4 passed, 0 failed' 'gate: 1 of the 1 must-fail edits' bash .ci/run
+
+with_test '2 passed, 0 failed' 0
+with_edit '1 + 1 ≡ 4' '1 + 1 ≡ 3'
+expect refused 'an edit that cannot be applied' '3 passed, 1 failed' 'gate: 0 of the 1 must-fail edits .* 1 are bad' bash .ci/run
 
 with_test '2 passed, 0 failed' 0
 echo 'another kit' > "$repo/KIT"
