@@ -2,7 +2,7 @@
 // turned into a row, the chart is joined with a second one, the faces and holes of a third are listed, and a refusal of
 // each sort is met. rust/examples/rig.rs does the same job and prints the same. From the top of the repository:
 //
-//     rt staticlib rig
+//     tests/boundary/librig.sh
 //     gcc -I include -o target/rig examples/rig.c target/staticlib/librig.a
 //     target/rig examples/square.chart examples/neighbour.chart examples/square-with-hole.chart
 #include "berzulka.h"

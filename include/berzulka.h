@@ -1,5 +1,5 @@
 // Berzulka for C and C++: questions about charts. They are answered by the archive target/staticlib/librig.a, which
-// `rt staticlib rig` proves and writes, for x86-64 Linux.
+// `tests/boundary/librig.sh` proves and writes, for x86-64 Linux.
 //
 // A chart is an array of signed sixteen-bit numbers, BZ_WIDTH of them to a record: x and y of the dominating end, x and
 // y of the other end, the side mark. Document 01 fixes every rule.

@@ -1,5 +1,5 @@
 //! Links the archive librig.a: from the folder that BERZULKA_LIB names, else from target/staticlib of the repository,
-//! where `rt staticlib rig` writes it.
+//! where `tests/boundary/librig.sh` writes it.
 
 use std::env;
 use std::path::{Path, PathBuf};
@@ -22,7 +22,7 @@ fn main() {
     println!("cargo:rerun-if-changed={}", archive.display());
     if !archive.is_file() {
         eprintln!("{} is not there.", archive.display());
-        eprintln!("Make it at the top of the repository:  rt staticlib rig");
+        eprintln!("Make it at the top of the repository:  tests/boundary/librig.sh");
         eprintln!("or name the folder that it is in:      BERZULKA_LIB=FOLDER");
         exit(1);
     }

@@ -10,9 +10,9 @@
 set -u
 cd "$(dirname "$0")/.." || exit 2
 PATH="$PATH:${HOME:-}/.cargo/bin"
-rt check chartcheck > /dev/null || exit 1
-rustc --edition 2021 -O -o target/make examples/make.rs || exit 1
-program=target/bin/chartcheck
+bash tests/boundary/program.sh chartcheck || exit 1
+mkdir -p target && rustc --edition 2021 -O -o target/make examples/make.rs || exit 1
+program=crates/chartcheck/out/chartcheck
 scratch=$(mktemp -d) || exit 2
 trap 'rm -rf "$scratch"' EXIT
 input=$scratch/input

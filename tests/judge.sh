@@ -4,7 +4,7 @@
 # Any number of drawn questions by hand: tests/judge.sh COUNT SEED
 set -u
 source "$(dirname "$0")/boundary/begin.sh"
-rt check probe > /dev/null || exit 1
+bash tests/boundary/program.sh probe || exit 1
 build_judge || exit 1
 
 # Runs the judge, shows what it prints, and adds up its closing line. A run that does not close with one has failed.
@@ -21,5 +21,5 @@ ask() {
 }
 
 ask all "${1:-10000}" "${2:-1}"
-ask nearest target/bin/probe "${1:-10000}" "${2:-1}"
+ask nearest crates/probe/out/probe "${1:-10000}" "${2:-1}"
 closes

@@ -54,7 +54,7 @@ in_rust() {
 says_what_is_missing() {
     ! BERZULKA_LIB=$scratch CARGO_TARGET_DIR=$scratch/target in_rust cargo build 2> "$scratch/errors" || return 1
     cat "$scratch/errors"
-    grep -qF "$scratch/librig.a is not there" "$scratch/errors" && grep -q 'rt staticlib rig' "$scratch/errors"
+    grep -qF "$scratch/librig.a is not there" "$scratch/errors" && grep -q 'tests/boundary/librig.sh' "$scratch/errors"
 }
 
 expect 'the example in Rust' rust_prints

@@ -1,4 +1,5 @@
-//! Questions about charts, answered by the proved library that the archive `librig.a` holds (`rt staticlib rig`).
+//! Questions about charts, answered by the proved library that the archive `librig.a` holds, which
+//! `tests/boundary/librig.sh` writes.
 //!
 //! A chart is a slice of numbers, [`WIDTH`] of them to a record: x and y of the dominating end, x and y of the other
 //! end, the side mark. Document 01 fixes every rule. Nothing has to be checked before a question is asked: any numbers,

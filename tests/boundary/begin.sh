@@ -12,10 +12,8 @@ log=$scratch/log
 passed=0
 failed=0
 
-# The archive, made anew where the library was proved after it. One that stays keeps its time, so that cargo need not
-# build anew what stands on it.
-rt check rig > /dev/null || exit 1
-[ "$archive" -nt target/rlib/rig.rlib ] || rt staticlib rig > /dev/null || exit 1
+# the archive, made anew where it has changed
+bash tests/boundary/librig.sh || exit 1
 
 # expect WHAT COMMAND..: a test, which passes where the command does. What the command prints is shown where it fails.
 expect() {
