@@ -61,7 +61,7 @@ fn count_second(op: Op, a: &[i16], b: &[i16], n: usize) -> usize
 }
 
 // How many records the result has.
-#[tactic(auto, using(crate::proofs::Sets::for_result_size))]
+#[tactic(auto, using(crate::proofs::Sets::sized))]
 fn result_size(op: Op, a: &[i16], b: &[i16]) -> usize
     ensures { Sized op a.now b.now result }
 {
@@ -73,7 +73,7 @@ fn result_size(op: Op, a: &[i16], b: &[i16]) -> usize
 // ---- writing
 
 // The record becomes record n of the array.
-#[tactic(auto, using(crate::proofs::Sets::for_put))]
+#[tactic(auto, using(crate::proofs::Sets::put_there))]
 fn put(r: Record, out: &mut [i16], n: usize)
     requires { width * n + width ≤ length out.old }
     ensures { out.new ≡ with_record out.old n r }
@@ -115,7 +115,7 @@ fn take_second(op: Op, a: &[i16], b: &[i16], j: usize, out: &mut [i16], n: usize
 }
 
 // Both charts at once, always on at the smaller head.
-#[tactic(auto, using(crate::proofs::WriteLaws::left, crate::proofs::WriteLaws::writing, crate::proofs::Sets::for_write))]
+#[tactic(auto, using(crate::proofs::WriteLaws::left, crate::proofs::WriteLaws::writing, crate::proofs::Sets::second_next))]
 fn write(op: Op, a: &[i16], b: &[i16], out: &mut [i16])
     requires region { Region a.now × Region b.now }
     requires room { width * length (result_of op a.now b.now) ≤ length out.old }
@@ -144,7 +144,7 @@ fn write(op: Op, a: &[i16], b: &[i16], out: &mut [i16])
 
 // ---- joining
 
-#[tactic(auto, using(crate::proofs::Sets::for_is_touched_in))]
+#[tactic(auto, using(crate::proofs::Sets::touches))]
 fn is_touched_in(b: &[i16], r: Record) -> bool
     ensures { result ≡ touches_in b.now r }
 {
