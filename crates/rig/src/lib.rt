@@ -65,7 +65,7 @@ fn pack_place(a: Place) -> u64
 // ---- questions about a chart
 
 // 0 where the chart is accepted.
-#[tactic(auto, using(crate::proofs::Sets::for_bz_check))]
+#[tactic(auto, using(crate::proofs::Sets::checked))]
 pub fn bz_check(chart: &[i16]) -> u64
     ensures { result ≡ check_answer (verdict chart.now) }
 {
@@ -76,7 +76,7 @@ pub fn bz_check(chart: &[i16]) -> u64
     }
 }
 
-#[tactic(auto, using(crate::proofs::Sets::for_bz_point))]
+#[tactic(auto, using(crate::proofs::Sets::placed))]
 pub fn bz_point(chart: &[i16], x: i16, y: i16) -> u64
     ensures { result ≡ point_answer (placed chart.now (point_of x y)) }
 {
@@ -84,7 +84,7 @@ pub fn bz_point(chart: &[i16], x: i16, y: i16) -> u64
 }
 
 // The run's start in the lower half and its length in the upper, in numbers; 0 where it is empty. It gives no refusal.
-#[tactic(auto, using(crate::proofs::Sets::for_bz_corner), unfolding(crate::specs::Answers::corner_answer))]
+#[tactic(auto, using(crate::proofs::Sets::cornered), unfolding(crate::specs::Answers::corner_answer))]
 pub fn bz_corner(chart: &[i16], x: i16, y: i16) -> u64
     ensures { result ≡ corner_answer (corner_of chart.now (point_of x y)) }
 {
@@ -107,7 +107,7 @@ pub fn bz_head(a: &[i16], b: &[i16]) -> u64
 }
 
 // Twice the area goes to `out`, which stays as it is where the chart is refused.
-#[tactic(auto, using(crate::proofs::AnswerLaws::area_small, crate::proofs::Sets::for_bz_area2))]
+#[tactic(auto, using(crate::proofs::AnswerLaws::area_small, crate::proofs::Sets::measured))]
 pub fn bz_area2(chart: &[i16], out: &mut i64) -> u64
     ensures value { result ≡ area_answer (area_of chart.now) }
     ensures out_after { out.new ≡ area_left (area_of chart.now) out.old }
@@ -137,7 +137,7 @@ fn pack_faces(a: FaceList) -> u64
 
 // The cycle number of each record goes to `labels`, two numbers per cycle to `cycles`; both stay as they are where the
 // chart or the arrays are refused.
-#[tactic(auto, using(crate::proofs::Sets::for_bz_faces))]
+#[tactic(auto, using(crate::proofs::Sets::faced))]
 pub fn bz_faces(chart: &[i16], labels: &mut [u16], cycles: &mut [u16]) -> u64
     ensures { FacesListed chart.now labels.old cycles.old
         labels.new cycles.new result }
@@ -159,21 +159,21 @@ fn pack_joined(j: Joined) -> u64
 }
 
 // The result goes to `out`, which stays as it is where joining is refused; so it is of the two after it.
-#[tactic(auto, using(crate::proofs::Sets::for_bz_union))]
+#[tactic(auto, using(crate::proofs::Sets::joined))]
 pub fn bz_union(a: &[i16], b: &[i16], out: &mut [i16]) -> u64
     ensures { Combines Union a.now b.now out.old out.new result }
 {
     pack_joined(combine(Op::Union, a, b, out))
 }
 
-#[tactic(auto, using(crate::proofs::Sets::for_bz_intersection))]
+#[tactic(auto, using(crate::proofs::Sets::joined))]
 pub fn bz_intersection(a: &[i16], b: &[i16], out: &mut [i16]) -> u64
     ensures { Combines Intersection a.now b.now out.old out.new result }
 {
     pack_joined(combine(Op::Intersection, a, b, out))
 }
 
-#[tactic(auto, using(crate::proofs::Sets::for_bz_difference))]
+#[tactic(auto, using(crate::proofs::Sets::joined))]
 pub fn bz_difference(a: &[i16], b: &[i16], out: &mut [i16]) -> u64
     ensures { Combines Difference a.now b.now out.old out.new result }
 {
@@ -183,7 +183,7 @@ pub fn bz_difference(a: &[i16], b: &[i16], out: &mut [i16]) -> u64
 // ---- gauges
 
 // What the card of a kind gives: 0 is a spring, of a rate and a pin, and 1 a bridge, of a gain and a zero.
-#[tactic(auto, using(crate::proofs::Sets::for_gauged))]
+#[tactic(auto, using(crate::proofs::Sets::kinds))]
 fn gauged(kind: u8, first: f64, second: f64, sample: i16) -> Gauged
     ensures { KindGauges kind first second sample result }
 {
@@ -212,7 +212,7 @@ fn gauged(kind: u8, first: f64, second: f64, sample: i16) -> Gauged
 }
 
 // Pressure and row are always written.
-#[tactic(auto, using(crate::proofs::Sets::for_bz_gauge))]
+#[tactic(auto, using(crate::proofs::Sets::sampled))]
 pub fn bz_gauge(
     kind: u8,
     first: f64,
@@ -234,7 +234,7 @@ pub fn bz_gauge(
 // ---- files
 
 // How many records were read; `out` stays as it is where the file is refused.
-#[tactic(auto, using(crate::proofs::Sets::for_bz_read))]
+#[tactic(auto, using(crate::proofs::Sets::read))]
 pub fn bz_read(bytes: &[u8], out: &mut [i16]) -> u64
     ensures { FileRead bytes.now out.old out.new result }
 {
