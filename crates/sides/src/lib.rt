@@ -24,7 +24,6 @@ pub enum Op {
 
 // ---- what is kept
 
-#[tactic(auto, using(crate::proofs::SideLaws::joinings))]
 pub fn joins(op: Op, first: bool, second: bool) -> bool
     ensures { result ≡ joined_by op first second }
 {
@@ -36,7 +35,7 @@ pub fn joins(op: Op, first: bool, second: bool) -> bool
 }
 
 // Whether the upper side of t, or the left of a vertical one, lies in the chart.
-#[tactic(auto, using(crate::proofs::Sets::for_is_upper_in), unfolding(grid::specs::Coordinates::up))]
+#[tactic(auto, unfolding(grid::specs::Coordinates::up))]
 fn is_upper_in(s: &[i16], t: Segment) -> bool
     ensures { result ≡ upper_side (records s.now) t }
 {
@@ -44,7 +43,6 @@ fn is_upper_in(s: &[i16], t: Segment) -> bool
 }
 
 // Whether it lies in the result.
-#[tactic(auto, using(crate::proofs::Sets::for_is_upper_joined))]
 fn is_upper_joined(op: Op, a: &[i16], b: &[i16], t: Segment) -> bool
     ensures { result ≡ joining op (upper_sides (both a.now b.now) t) }
 {
@@ -53,7 +51,6 @@ fn is_upper_joined(op: Op, a: &[i16], b: &[i16], t: Segment) -> bool
 
 // Whether the two sides of t differ in the result. The other side lies in a chart as the upper one does, but the
 // reverse where the chart has t.
-#[tactic(auto, using(crate::proofs::Sets::for_is_kept))]
 fn is_kept(op: Op, a: &[i16], b: &[i16], t: Segment) -> bool
     ensures { result ≡ keeps (joining op) (both a.now b.now) t }
 {
@@ -67,7 +64,7 @@ fn is_kept(op: Op, a: &[i16], b: &[i16], t: Segment) -> bool
 }
 
 // Whether a record of the first chart is kept.
-#[tactic(auto, using(crate::proofs::Sets::for_is_kept_first))]
+#[tactic(auto, unfolding(crate::specs::Kept::kept_first))]
 pub fn is_kept_first(op: Op, a: &[i16], b: &[i16], r: Record) -> bool
     ensures { result ≡ kept_first op a.now b.now r }
 {
@@ -75,7 +72,7 @@ pub fn is_kept_first(op: Op, a: &[i16], b: &[i16], r: Record) -> bool
 }
 
 // Of the second chart only what the first has not.
-#[tactic(auto, using(crate::proofs::Sets::for_is_kept_second))]
+#[tactic(auto, unfolding(crate::specs::Kept::kept_second, crate::specs::Kept::kept_first))]
 pub fn is_kept_second(op: Op, a: &[i16], b: &[i16], r: Record) -> bool
     ensures { result ≡ kept_second op a.now b.now r }
 {
@@ -89,7 +86,7 @@ pub fn is_kept_second(op: Op, a: &[i16], b: &[i16], r: Record) -> bool
 // ---- how it is marked
 
 // The mark of t in the result.
-#[tactic(auto, using(crate::proofs::Sets::for_mark_of), unfolding(grid::specs::Coordinates::up))]
+#[tactic(auto, unfolding(grid::specs::Coordinates::up))]
 fn mark_of(op: Op, a: &[i16], b: &[i16], t: Segment) -> u16
     ensures { result ≡ side_mark op a.now b.now t }
 {
@@ -100,7 +97,7 @@ fn mark_of(op: Op, a: &[i16], b: &[i16], t: Segment) -> u16
 }
 
 // The record as it stands in the result.
-#[tactic(auto, using(crate::proofs::Sets::for_marked_afresh))]
+#[tactic(auto, unfolding(crate::specs::Kept::side_marked))]
 pub fn marked_afresh(op: Op, a: &[i16], b: &[i16], r: Record) -> Record
     ensures { result ≡ side_marked op a.now b.now r }
 {
