@@ -39,7 +39,6 @@ fn main() {
 // ---- what is said
 
 // Of a chart of so many cycles and faces: each face has one outer cycle, the other cycles are holes.
-#[tactic(auto, using(crate::proofs::Sets::for_report_with))]
 fn report_with(chart: &[i16], cycles: usize, faces: usize) -> Report
     requires { faces ≤ cycles }
     ensures { result
@@ -58,7 +57,6 @@ fn report_with(chart: &[i16], cycles: usize, faces: usize) -> Report
 }
 
 // What a chart is said to be. The arrays have room for as many records and cycles as a chart can have.
-#[tactic(auto, using(crate::proofs::Sets::for_report_of))]
 fn report_of(chart: &[i16]) -> Report
     ensures { result ≡ chart_report chart.now }
 {
@@ -72,7 +70,6 @@ fn report_of(chart: &[i16]) -> Report
 }
 
 // What a file is said to be. The array has room for the most records that a file can have.
-#[tactic(auto, using(crate::proofs::Sets::for_report_on))]
 fn report_on(bytes: &[u8]) -> Report
     ensures { result ≡ report bytes.now }
 {
@@ -121,7 +118,6 @@ fn say_refusal(r: Refusal) {
     io::write_all(1, b"\n");
 }
 
-#[tactic(auto, using(grid::proofs::TurnedLaws::next_fits, crate::proofs::Sets::for_say_signed))]
 fn say_signed(z: i64) {
     if z < 0 {
         io::write_all(1, b"-");
