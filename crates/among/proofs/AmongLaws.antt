@@ -2,7 +2,7 @@
 --     has-found, has_segment-found, touched-found     by the first place; together
 --     first_found, for a function's tactic line
 --     ends-counted                 by the number counted
---     counted_mark-odd, counted_mark-even    the counted mark, by the number counted
+--     counted_mark-odd, counted_mark-even  the counted mark, by the number counted
 -- Assumes nothing.
 use mathlib.Core.Path.{◌≡◌, sym, ap, ◌∙◌}
 use mathlib.Core.Bool.{cond}

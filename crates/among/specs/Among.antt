@@ -1,11 +1,11 @@
 -- One record, segment or point among records rs (document 01, "How a chart is laid out" and "When a chart is turned
 -- away").
 --     has rs e             the record e is there, with its mark
---     has_segment rs s      the segment s is there
+--     has_segment rs s     the segment s is there
 --     touched rs s         s touches one of the segments
---     end_count rs p        how many segments end at p
---     mark_count rs s       how many of the segments are counted for the mark of s
---     counted_mark rs s     mark 1 exactly if that number is odd
+--     end_count rs p       how many segments end at p
+--     mark_count rs s      how many of the segments are counted for the mark of s
+--     counted_mark rs s    mark 1 exactly if that number is odd
 -- Assumes nothing.
 use Rattle.std.specs.Prelude.{Bool, cond, List, ℕ}
 use Rattle.counts.specs.Count.{count, any, odd}

@@ -1,9 +1,9 @@
 -- Laws of twice the area (specs/Areas.antt) and of the two sums it is found by (specs/Sums.antt).
 --     segment-across     a segment's second end is no further left than its first
 --     share-is           what a record adds is its gain less its loss
---     twice_area-is       so twice the area is the gains less the losses
---     area_of-accepted, area_of-refused      the answer in each case of the verdict
---     area_of-refusal     the chart's refusal is given first, and none where it is answered
+--     twice_area-is      so twice the area is the gains less the losses
+--     area_of-accepted, area_of-refused    the answer in each case of the verdict
+--     area_of-refusal    the chart's refusal is given first, and none where it is answered
 --     segment_rises, gains_less_losses, few_records      for functions' tactic lines
 -- Assumes nothing.
 use mathlib.Core.Path.{◌≡◌, refl, sym, ap, ap₂, ◌∙◌}

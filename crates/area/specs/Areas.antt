@@ -4,10 +4,10 @@
 --     heights r       the sum of both end heights
 --     share r         for a left half: the width of its segment times that sum, minus for mark 1. A vertical one has no
 --                     width, so it adds nothing. For a right half 0, so that each segment is taken once
---     twice_area rs    over all records
---     area_refusal a   the paper's number and index for each case: 0 and 0 where it is answered
---     area_if v z      twice the area z, or the refusal that v gives
---     area_of s        the same of an array of numbers: first its refusal, if it is no chart
+--     twice_area rs   over all records
+--     area_refusal a  the paper's number and index for each case: 0 and 0 where it is answered
+--     area_if v z     twice the area z, or the refusal that v gives
+--     area_of s       the same of an array of numbers: first its refusal, if it is no chart
 -- Assumes nothing.
 use Rattle.std.specs.Prelude.{cond, List, [], ◌∷◌, eqb, ℤ, pos, neg_ℤ, ◌+ℤ◌, ◌*ℤ◌}
 use Rattle.plane.specs.Columns.{breadth}

@@ -5,8 +5,8 @@
 --     across r            how far across the segment of a left half goes; 0 for a right half
 --     strip w a b         a breadth by two counted heights
 --     gain r, loss r      what r adds to either sum
---     most_term            the most that a term reaches: two products of counts
---     most_records         of how many records the sums are shown to fit
+--     most_term           the most that a term reaches: two products of counts
+--     most_records        of how many records the sums are shown to fit
 --     Term n m           m is n, a term of a sum, and no more than the most
 -- Assumes nothing.
 use Rattle.std.specs.Prelude.{◌≡◌, cond, ℕ, ◌+◌, ◌*◌, ◌≤◌, eqb, pos}

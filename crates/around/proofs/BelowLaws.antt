@@ -1,5 +1,5 @@
 -- What lies below a point.
---     below_point-before     a segment that is counted below a point starts before it
+--     below_point-before    a segment that is counted below a point starts before it
 -- Assumes nothing.
 use mathlib.Core.Path.{◌≡◌, ap}
 use mathlib.Core.Logic.{inl, inr}

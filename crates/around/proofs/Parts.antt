@@ -2,7 +2,7 @@
 -- and what lies beside a column those of region's Charts.antt.
 --     Part rs C            C is some of the records rs, both halves of each of its segments, each once, with an even
 --                          number of its segments at every point: an even chart of its own
---     left_of C r           whether C lies on the left hand of one who walks r from its dominating end to the other
+--     left_of C r          whether C lies on the left hand of one who walks r from its dominating end to the other
 --     Ranked rs rank       a sound chart, each record once, and a number for each by document 01's order
 --     Before rs rank e j   e is just before j around their corner: none of rs lies between them in the order, or j is
 --                          the first there and e the last

@@ -1,7 +1,7 @@
 -- Rows of the check as a program finds them (specs/Rows.antt): from what its functions answer.
 --     first-there, first-past            whether the first place that a loop found is one of n
---     not_after-first, not_after-later     row 5 at the first record, which comes after none, and at a later one
---     no_other_half-is, touching-is, odd_end-is, wrong_mark-is    rows 6 to 9, by what is among the records
+--     not_after-first, not_after-later   row 5 at the first record, which comes after none, and at a later one
+--     no_other_half-is, touching-is, odd_end-is, wrong_mark-is  rows 6 to 9, by what is among the records
 -- Assumes nothing.
 use mathlib.Core.Path.{◌≡◌, ap, ap₂, ◌∙◌}
 use mathlib.Core.Logic.{⊎_elim}

@@ -2,7 +2,7 @@
 -- differ, and its other half is there.
 --     left-half        each segment has its left half
 --     touching-off     row 7 finds nothing exactly if no two distinct segments touch
---     odd_end-off       row 8 finds nothing exactly if an even number of segments ends at every point
+--     odd_end-off      row 8 finds nothing exactly if an even number of segments ends at every point
 -- Assumes nothing.
 use mathlib.Core.Path.{◌≡◌, refl, sym, ap, ◌∙◌, subst}
 use mathlib.Core.Logic.{◌↔◌, ⊎_elim}

@@ -1,8 +1,8 @@
 -- What it means that a row of document 01's refusal table finds nothing: the tests of specs/Rows.antt, both ways.
---     equal_ends-off, bad_mark-off      rows 3 and 4, of a record
---     not_after-off                    row 5, of all places of an array
---     no_other_half-off                 row 6, of a record
---     wrong_mark-off                   row 9, of a record
+--     equal_ends-off, bad_mark-off    rows 3 and 4, of a record
+--     not_after-off                   row 5, of all places of an array
+--     no_other_half-off               row 6, of a record
+--     wrong_mark-off                  row 9, of a record
 -- Rows 7 and 8 are in HalvesLaws.antt. Assumes nothing.
 use mathlib.Core.Path.{◌≡◌, refl, sym, ap, ◌∙◌, subst}
 use mathlib.Core.Logic.{◌↔◌, ◌⊎◌, inl, inr}

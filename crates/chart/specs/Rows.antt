@@ -1,12 +1,12 @@
 -- What each row of document 01's refusal table looks for ("When a chart is turned away"). rs are the records of the
 -- chart, r one of them; row 5 looks at two in a row, so at a place i of the array s.
---     equal_ends r          3: its two ends are equal
---     bad_mark r            4: its mark is neither 0 nor 1
---     not_after s i         5: record i does not come strictly after the one before
---     no_other_half rs r     6: the other half, ends swapped and same mark, is missing
+--     equal_ends r         3: its two ends are equal
+--     bad_mark r           4: its mark is neither 0 nor 1
+--     not_after s i        5: record i does not come strictly after the one before
+--     no_other_half rs r   6: the other half, ends swapped and same mark, is missing
 --     touching rs r        7: its segment touches one of the chart's
---     odd_end rs r          8: an odd number of segments ends at its dominating end
---     wrong_mark rs r       9: its mark is not the counted one
+--     odd_end rs r         8: an odd number of segments ends at its dominating end
+--     wrong_mark rs r      9: its mark is not the counted one
 -- Assumes nothing.
 use Rattle.std.specs.Prelude.{Bool, not, ◌&&◌, List, ℕ, ◌-◌, ltb, eqb, ℤ}
 use Rattle.counts.specs.Count.{odd}

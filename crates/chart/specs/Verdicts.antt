@@ -2,15 +2,15 @@
 -- smallest record index at fault").
 --     limit              how many records a chart may have
 --     refused k i        refusal k at record i
---     no_refusal          0, with index 0
---     refusal_of v        the paper's number and index for each case: 0 and 0 where the chart is accepted
+--     no_refusal         0, with index 0
+--     refusal_of v       the paper's number and index for each case: 0 and 0 where the chart is accepted
 --     firstly k i n v    refusal k at i where i is one of n records; v where there is none
 --     judged s           of its records: 3 to 9, the first record at fault of each kind (specs/Rows.antt), kind after
 --                        kind; a first place that is the number of records means none
 --     verdict s          1  length is no multiple of five
 --                        2  more than 512 records
 --                        else as its records are judged
---     is_accepted v, accepted s    the verdict refuses nothing
+--     is_accepted v, accepted s   the verdict refuses nothing
 -- Assumes nothing.
 use Rattle.std.specs.Prelude.{Bool, true, false, not, cond, List, ℕ, ◌%◌, ltb, eqb, ℤ, length}
 use Rattle.counts.specs.Scan.{first_from}

@@ -1,8 +1,8 @@
 -- What the program says of a file (document 01: "It reads the file, checks the chart and writes one line").
 --     room             how many numbers its array holds: five for each of the most records that a chart may have
---     area_report n k h a   of a chart of n records, k faces, h holes and the area a: all four, or the chart's refusal
---     chart_report s    of a chart s: the cycles that are not the outer cycle of a face are holes
---     taken_report t    of what was taken from a file: the file's refusal, or what its chart is said to be
+--     area_report n k h a  of a chart of n records, k faces, h holes and the area a: all four, or the chart's refusal
+--     chart_report s   of a chart s: the cycles that are not the outer cycle of a face are holes
+--     taken_report t   of what was taken from a file: the file's refusal, or what its chart is said to be
 --     report bytes     of a file
 -- Assumes nothing.
 use Rattle.std.specs.Prelude.{List, ℕ, ◌-◌, ◌*◌, ℤ}

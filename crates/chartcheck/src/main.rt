@@ -41,8 +41,7 @@ fn main() {
 // Of a chart of so many cycles and faces: each face has one outer cycle, the other cycles are holes.
 fn report_with(chart: &[i16], cycles: usize, faces: usize) -> Report
     requires { faces ≤ cycles }
-    ensures { result
-        ≡ area_report (record_count chart.now) faces (cycles - faces) (area_of chart.now) }
+    ensures { result ≡ area_report (record_count chart.now) faces (cycles - faces) (area_of chart.now) }
 {
     let a = area::area2(chart);
     match a {

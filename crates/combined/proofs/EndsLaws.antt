@@ -1,10 +1,10 @@
 -- Records by their two ends, which record order and a record's segment go by, and a chart that has such a record.
 --     same_ends r e                     e has the ends of r, whatever its mark
---     same_ends-true, same_ends-intro    the test and what it tests, both ways
---     ends-left, ends-segment          it is of the same half and of the same segment
---     half-ends                        and records of one half and of one segment have the same ends
---     has_segment-mem, mem-has_segment   a sound chart has a segment exactly if it has its records
---     single-segments                  where no two records have the same ends, no two segments are one
+--     same_ends-true, same_ends-intro   the test and what it tests, both ways
+--     ends-left, ends-segment           it is of the same half and of the same segment
+--     half-ends                         and records of one half and of one segment have the same ends
+--     has_segment-mem, mem-has_segment  a sound chart has a segment exactly if it has its records
+--     single-segments                   where no two records have the same ends, no two segments are one
 -- Assumes nothing.
 use mathlib.Core.Path.{◌≡◌, refl, sym, ap, ◌∙◌}
 use mathlib.Core.Bool.{Bool, true, false, not, ◌&&◌}

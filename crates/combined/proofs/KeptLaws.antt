@@ -2,7 +2,7 @@
 -- kept segments, in whatever order and with whatever mark.
 --     segment-mark           the mark does not count for the segment
 --     remarked-count         so marking afresh changes no count of segments
---     kept_segments f cs      the segments of the charts that are kept
+--     kept_segments f cs     the segments of the charts that are kept
 --     kept-count, ordered-count, result_count    records counted by their segments: kept, put in order, marked
 --     result-any                                 whether some passes
 --     segments-result, segments-result-mem       the segments of the result: as often, and which

@@ -1,7 +1,7 @@
 -- Laws of `numbers` (specs/Results.antt): the array that is written has the records that it was made of.
 --     numbers-length, numbers-append    five numbers for each record, and record after record
 --     numbers-whole, numbers-count      no number is left over, and it has as many records
---     record_at-numbers                  at each place the one that stands there
+--     record_at-numbers                 at each place the one that stands there
 --     records-numbers                   so its records are these
 -- Assumes nothing.
 use mathlib.Core.Path.{◌≡◌, refl, ap, ◌∙◌}

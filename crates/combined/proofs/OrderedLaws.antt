@@ -1,10 +1,10 @@
 -- Laws of `inserted` and `in_order` (specs/Results.antt).
---     in_order-sum, in_order-count, in_order-length, in_order-mem, mem-in_order    what is put into order has the same
+--     in_order-sum, in_order-count, in_order-length, in_order-mem, mem-in_order  what is put into order has the same
 --                          members, as often
---     inserted-first, in_order-first    the first of the list stays the first where none precedes it
---     in_order-second       the first of a second list becomes it where it precedes the first list and none of its own
+--     inserted-first, in_order-first   the first of the list stays the first where none precedes it
+--     in_order-second      the first of a second list becomes it where it precedes the first list and none of its own
 --                          precedes it: what a merge of two lists needs
---     in_order-ascending    where no two have the same ends, each comes strictly after all before it
+--     in_order-ascending   where no two have the same ends, each comes strictly after all before it
 -- Assumes nothing.
 use mathlib.Core.Path.{◌≡◌, refl, sym, ap, ◌∙◌}
 use mathlib.Core.Logic.{◌⊎◌, inl, inr}

@@ -1,7 +1,7 @@
 -- The outline under f of charts laid over each other: the segments of any of them whose two sides differ under f. In
 -- each strip the telescope holds of it: an odd number of the outline lies below a cut exactly where f holds of the
 -- charts' own counts there.
---     kept-up_to      at or below one of the segments: f of its upper sides
+--     kept-up_to     at or below one of the segments: f of its upper sides
 --     kept-right     below a height at column x, in the strip right of it
 --     kept-left      the same in the strip left of it
 --     kept-below     below a point, as document 01 counts there

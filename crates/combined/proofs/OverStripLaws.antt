@@ -1,7 +1,7 @@
 -- Charts laid over each other, in the strip right of a column x.
 --     strip-distinct       at most one of their segments over the strip has a given key
 --     strip-order          the one of no greater key is no higher, at both columns of the strip
---     upper_sides-strip, lower_sides-strip     the sides of a segment over all the charts, as each counts them in the
+--     upper_sides-strip, lower_sides-strip   the sides of a segment over all the charts, as each counts them in the
 --                          strip
 -- Assumes nothing.
 use mathlib.Core.Path.{◌≡◌, sym, ◌∙◌}

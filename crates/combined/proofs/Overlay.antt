@@ -1,8 +1,8 @@
 -- The segments of several charts laid over each other, as the theory takes them. A device of the proofs.
 --     Overlay W cs us    us are the segments of the charts cs, each once; each chart is sound and has a segment once;
 --                        no two of us touch
---     odd_in q cs         of each chart, whether an odd number of its segments pass q
---     kept_in f cs us     those of us that are kept
+--     odd_in q cs        of each chart, whether an odd number of its segments pass q
+--     kept_in f cs us    those of us that are kept
 -- Assumes nothing.
 use mathlib.Core.Bool.{Bool}
 use mathlib.Core.List.{List, map}

@@ -1,7 +1,7 @@
 -- The segments that are kept where charts are combined (document 01, "Joining two charts": "The result keeps the
 -- segments of either chart whose two sides differ under or, and, or and-not"). cs are the charts, each by its records,
 -- and f says of their answers, in their order, what the result's is: any function that is false where all are false.
---     upper_sides cs s, lower_sides cs s    of each chart, whether that side of s lies in it
+--     upper_sides cs s, lower_sides cs s  of each chart, whether that side of s lies in it
 --     keeps f cs s      the two sides of s differ under f
 --     either cs         the records of the charts, each segment by the first chart that has it
 --     kept f cs         those of them whose segments are kept

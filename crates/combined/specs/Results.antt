@@ -1,8 +1,8 @@
 -- The result of combining charts (document 01, "Joining two charts": the kept segments "in record order, marked
 -- afresh"), as records and as the numbers of an array.
 --     inserted r rs     r put among rs, which are in record order, before the first that does not precede it
---     in_order rs        rs in record order
---     with_mark m r      r with the mark m
+--     in_order rs       rs in record order
+--     with_mark m r     r with the mark m
 --     remarked rs       each with the mark by document 01's count over rs themselves
 --     result f cs       the kept records in record order, marked afresh
 --     numbers rs        the array of these records, five numbers each

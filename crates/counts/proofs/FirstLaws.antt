@@ -1,7 +1,7 @@
 -- Laws of `first_index`.
---     first_index-most, first_index-passes, first_index-fails    what stands at the first index, and before it
---     first_index-unique       the index at which p passes and before which it fails is the first
---     first_index-none         where none passes it is the length, and only there
+--     first_index-most, first_index-passes, first_index-fails  what stands at the first index, and before it
+--     first_index-unique      the index at which p passes and before which it fails is the first
+--     first_index-none        where none passes it is the length, and only there
 -- Assumes nothing.
 use mathlib.Core.Path.{◌≡◌, refl, sym, ap, ◌∙◌}
 use mathlib.Core.Logic.{◌⊎◌, inl, inr, ◌↔◌}

@@ -1,9 +1,9 @@
 -- The first place from a on at which f passes a test: `first_from` of specs/Scan.antt, for any test p and any f.
---     first_from-end, -hit, -miss               its value by the first step
---     first_from-low, -high, -passes, -fails    its range, and what stands at the first place, and before it
---     first_from-least                          what passes is no earlier
---     first_from-unique                         what passes where nothing before it does is the first
---     first_from-none, any-first                no place passes; it is below n exactly if some member passes
+--     first_from-end, -hit, -miss              its value by the first step
+--     first_from-low, -high, -passes, -fails   its range, and what stands at the first place, and before it
+--     first_from-least                         what passes is no earlier
+--     first_from-unique                        what passes where nothing before it does is the first
+--     first_from-none, any-first               no place passes; it is below n exactly if some member passes
 -- Assumes nothing.
 use mathlib.Core.Path.{◌≡◌, sym, ap, ◌∙◌}
 use mathlib.Core.Logic.{◌↔◌, ⊎_elim}

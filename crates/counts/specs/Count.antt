@@ -5,7 +5,7 @@
 --     count p xs        how many members pass p
 --     keep p xs         the members that pass p, in their order
 --     all p xs, any p xs   every member passes p; some member does
---     first_index p xs   the index of the first member that passes p; the length where none does
+--     first_index p xs  the index of the first member that passes p; the length where none does
 --     odd n, Even n     the parity of a count, as a test and as a fact
 --     a ⊕ b             exactly one of the two
 --     listed f a k      f a, f (a + 1), .. : k of them

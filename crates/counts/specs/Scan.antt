@@ -1,5 +1,5 @@
 -- What a loop over f a, f (a + 1), .. answers, as a contract says it: the first place, how many, or their sum.
---     first_from p f a n     the first place i from a on, below n, at which f i passes p; n where there is none
+--     first_from p f a n    the first place i from a on, below n, at which f i passes p; n where there is none
 --     Found p f a n r       r is that place, with its range, which is what most callers want
 --     Counted p f n m       m of the f 0 .. f (n - 1) pass p, and no more than n can
 --     Summed v f b n m      m is the sum of v over f 0 .. f (n - 1), no more than n terms of b each

@@ -1,7 +1,7 @@
 -- The least of the halves of some records, as the code finds it.
 --     lesser-second, lesser-first      the lesser of two, by the test
---     first_half-low       no more than the first number, and than each half of each record
---     first_half-some      the first number, or a half of a record
+--     first_half-low      no more than the first number, and than each half of each record
+--     first_half-some     the first number, or a half of a record
 --     Halving s f rest k m least t     what the loop holds: what is still to come is as good as all
 --     halving-none, halving-more, halving-all      it holds at first, at each record, and at the end is the answer
 --     stretch-known       what stands in a stretch are places of records

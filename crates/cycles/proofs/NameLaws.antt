@@ -1,11 +1,11 @@
 -- What stands at a place once the halves of some records have been given a number.
 --     halved s i j        i is a half of record j
---     halved_in s i cs     i is a half of a record of one of the cycles cs
---     starts_of-length, firsts_of-length     as many places as before
---     starts_of-at         the start at a place: w where it is a half of a record of the cycles, else as it was
---     least_half s c       the first record of the cycle c, as it is computed
---     firsts_of-at         the first record at a place: f where it is such a half and f is the first record of its cycle
---     starts_of-snoc, firsts_of-snoc      one more cycle
+--     halved_in s i cs    i is a half of a record of one of the cycles cs
+--     starts_of-length, firsts_of-length   as many places as before
+--     starts_of-at        the start at a place: w where it is a half of a record of the cycles, else as it was
+--     least_half s c      the first record of the cycle c, as it is computed
+--     firsts_of-at        the first record at a place: f where it is such a half and f is the first record of its cycle
+--     starts_of-snoc, firsts_of-snoc    one more cycle
 -- Assumes nothing.
 use mathlib.Core.Path.{◌≡◌, refl, sym, ap, ◌∙◌}
 use mathlib.Core.Bool.{Bool, true, false, cond, ◌||◌}

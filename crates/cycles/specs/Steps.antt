@@ -2,16 +2,16 @@
 --     PlaceOf s v i           i is v, and the place of a record
 --     Stretch s rest k m      the numbers of `rest` from place k on, below m, are places of records
 --     lesser i j              the lesser of two
---     first_half s f js        the least of f, of js, and of the other halves of js
---     name_record s v j to     `to` with the number v at both halves of record j
---     name_all s v js to       the same at both halves of each of js
---     name_first s c to        the same with the first record of the cycle c; as it was where c is empty
---     firsts_of s cs to        the same for each of the cycles cs
---     starts_of s w cs to      `to` with the number w at both halves of each record of cs
+--     first_half s f js       the least of f, of js, and of the other halves of js
+--     name_record s v j to    `to` with the number v at both halves of record j
+--     name_all s v js to      the same at both halves of each of js
+--     name_first s c to       the same with the first record of the cycle c; as it was where c is empty
+--     firsts_of s cs to       the same for each of the cycles cs
+--     starts_of s w cs to     `to` with the number w at both halves of each record of cs
 --     CutTo s p w rest m ..   the walk came to p, and k of the m records of `rest` are left: what is gone is a cycle of
 --                             the walk that started at w
 --     CutWalk s w ..          the whole walk from w was cut
---     is_free s i starts       record i departs and has no start yet: n stands for none
+--     is_free s i starts      record i departs and has no start yet: n stands for none
 --     CutFrom s i ..          the walk from record i was cut where it is free, else all is as it was
 --     Unset n starts          no record has a start yet
 --     CutWalks s ..           all walks were cut: each record has its start and the first record of its cycle, and what

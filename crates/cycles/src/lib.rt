@@ -154,8 +154,7 @@ fn name_record(s: &[i16], v: usize, j: usize, to: &mut [usize])
 #[tactic(auto, using(crate::proofs::Sets::naming))]
 fn name_all(s: &[i16], v: usize, rest: &[usize], k: usize, m: usize, to: &mut [usize])
     requires { Region s.now × Stretch s.now rest.now k m × (record_count s.now ≤ length to.old) }
-    ensures { to.new
-        ≡ name_all s.now v (drop k (take m rest.now)) to.old }
+    ensures { to.new ≡ name_all s.now v (drop k (take m rest.now)) to.old }
 {
     let mut t = k;
     while t < m {
@@ -179,8 +178,7 @@ fn cut_at(
 ) -> usize
     requires region { Region s.now × Stretch s.now rest.now 0 m }
     requires room { (record_count s.now ≤ length starts.old) × (record_count s.now ≤ length firsts.old) }
-    ensures { CutTo s.now p w rest.now m
-        starts.old firsts.old result starts.new firsts.new }
+    ensures { CutTo s.now p w rest.now m starts.old firsts.old result starts.new firsts.new }
 {
     let k = visit_of(s, p, rest, m);
     if k < m {
@@ -197,8 +195,7 @@ fn cut_at(
 fn cut_walk(s: &[i16], w: usize, starts: &mut [usize], firsts: &mut [usize])
     requires region { Region s.now × (w < record_count s.now) }
     requires room { (record_count s.now ≤ length starts.old) × (record_count s.now ≤ length firsts.old) }
-    ensures { CutWalk s.now w
-        starts.old firsts.old starts.new firsts.new }
+    ensures { CutWalk s.now w starts.old firsts.old starts.new firsts.new }
 {
     let n = s.len() / WIDTH;
     let mut rest = [0usize; 512];
@@ -225,8 +222,7 @@ fn cut_walk(s: &[i16], w: usize, starts: &mut [usize], firsts: &mut [usize])
 fn cut_from(s: &[i16], i: usize, starts: &mut [usize], firsts: &mut [usize])
     requires region { Region s.now × (i < record_count s.now) }
     requires room { (record_count s.now ≤ length starts.old) × (record_count s.now ≤ length firsts.old) }
-    ensures { CutFrom s.now i
-        starts.old firsts.old starts.new firsts.new }
+    ensures { CutFrom s.now i starts.old firsts.old starts.new firsts.new }
 {
     let n = s.len() / WIDTH;
     let w = starts[i];
@@ -243,8 +239,7 @@ fn cut_from(s: &[i16], i: usize, starts: &mut [usize], firsts: &mut [usize])
 fn cut_walks(s: &[i16], starts: &mut [usize], firsts: &mut [usize])
     requires region { Region s.now × Unset (record_count s.now) starts.old }
     requires room { record_count s.now ≤ length firsts.old }
-    ensures { CutWalks s.now
-        starts.old firsts.old starts.new firsts.new }
+    ensures { CutWalks s.now starts.old firsts.old starts.new firsts.new }
 {
     let n = s.len() / WIDTH;
     let mut i = 0;

@@ -1,7 +1,7 @@
 -- The two numbers of each cycle, in a list (specs/Lists.antt), over the first records of a chart.
 --     entries s i                of the cycles whose first record is before record i
 --     entries-size               two numbers a cycle
---     cycle_list-length           so over all
+--     cycle_list-length          so over all
 --     entries_next               one record more
 --     more-cycles                a first record's cycle comes after those before it
 -- Assumes nothing.

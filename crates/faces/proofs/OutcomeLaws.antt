@@ -7,7 +7,7 @@
 --     lists-refusal      a refusal is the array's own as a chart, or 10, and one of the two is too short
 --     lists-short        which is the answer wherever one is, of a region
 --     lists-one          the answer is one, and so is what the lent arrays then hold
---     faces_of-told       a refusal's number is at most 10, and its index below the limit
+--     faces_of-told      a refusal's number is at most 10, and its index below the limit
 --     counts-small       there are no more cycles than a chart may have records, and no more faces than cycles
 -- Assumes nothing.
 use mathlib.Core.Path.{◌≡◌, refl, sym, ap, ap₂, ◌∙◌}

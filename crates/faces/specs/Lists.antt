@@ -1,17 +1,17 @@
 -- The list of faces and holes of a chart s (document 01: "One lent array gets the cycle number of each record; another
 -- gets two numbers per cycle: 0 for outer or 1 for hole, then the face"): what is refused, what is answered, and what
 -- the lent arrays hold then. What cycles and faces are: walks' specs.
---     labels_of s             the cycle number of each record
---     kind_of s i             of the cycle of record i: 0 for outer or 1 for hole
---     entries_of s is         the two numbers of the cycle of each of the records is
---     cycle_list s            two numbers per cycle, in their order: each cycle is told by its first record
---     listed_in s l c         of an accepted chart, for lent arrays of l and c numbers: 10 exactly when either is too
+--     labels_of s            the cycle number of each record
+--     kind_of s i            of the cycle of record i: 0 for outer or 1 for hole
+--     entries_of s is        the two numbers of the cycle of each of the records is
+--     cycle_list s           two numbers per cycle, in their order: each cycle is told by its first record
+--     listed_in s l c        of an accepted chart, for lent arrays of l and c numbers: 10 exactly when either is too
 --                            short; else the number of cycles and of faces
---     list_if v a             the answer a, or the refusal that v gives
---     faces_of s l c          of any array: first its refusal, if it is no chart
+--     list_if v a            the answer a, or the refusal that v gives
+--     faces_of s l c         of any array: first its refusal, if it is no chart
 --     contents a xs lent     what a lent array holds then: xs at its start, the rest as it was; all of it as it was
 --                            where the answer is a refusal
---     list_refusal a          the paper's number and index for each case: 0 and 0 where it is answered
+--     list_refusal a         the paper's number and index for each case: 0 and 0 where it is answered
 --     Lists s labels cycles labels' cycles' a     the answer is a, and the arrays that were labels and cycles are then
 --                            labels' and cycles'
 -- Assumes nothing.

@@ -3,8 +3,8 @@
 --                              cycle
 --     WalkFaces s m faces      the array has, for each walk that starts before record m, its face
 --     Numbered s v m           m is v, and no more than the chart has records
---     with_cycle s i to m       `to` with the two numbers of the cycle of record i as those of cycle m
---     too_short                 10, at no record: the answer where a lent array is too short
+--     with_cycle s i to m      `to` with the two numbers of the cycle of record i as those of cycle m
+--     too_short                10, at no record: the answer where a lent array is too short
 --     SoundLists s ..          of an accepted chart: the answer is a, and the arrays that were labels and cycles are
 --                              then labels' and cycles'
 -- Assumes nothing.

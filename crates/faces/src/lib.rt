@@ -140,8 +140,7 @@ fn fill_faces(s: &[i16], starts: &[usize], firsts: &[usize], faces: &mut [usize]
 #[tactic(auto, using(crate::proofs::Sets::labelling))]
 fn write_labels(s: &[i16], starts: &[usize], firsts: &[usize], labels: &mut [u16])
     requires { Known s.now starts.now firsts.now × (record_count s.now ≤ length labels.old) }
-    ensures { labels.new
-        ≡ labels_of s.now ++ drop (record_count s.now) labels.old }
+    ensures { labels.new ≡ labels_of s.now ++ drop (record_count s.now) labels.old }
 {
     let n = s.len() / WIDTH;
     let mut labelled = 0;
@@ -202,8 +201,7 @@ fn put_cycle(
 fn write_cycles(s: &[i16], starts: &[usize], firsts: &[usize], faces: &[usize], cycles: &mut [u16])
     requires known { Known s.now starts.now firsts.now × WalkFaces s.now (record_count s.now) faces.now }
     requires room { 2 * cycle_count s.now ≤ length cycles.old }
-    ensures { cycles.new
-        ≡ cycle_list s.now ++ drop (2 * cycle_count s.now) cycles.old }
+    ensures { cycles.new ≡ cycle_list s.now ++ drop (2 * cycle_count s.now) cycles.old }
 {
     let n = s.len() / WIDTH;
     let mut passed = 0;
@@ -239,8 +237,7 @@ fn list_sound(
     cycles: &mut [u16],
 ) -> FaceList
     requires { Known s.now starts.now firsts.now }
-    ensures { SoundLists s.now labels.old cycles.old
-        labels.new cycles.new result }
+    ensures { SoundLists s.now labels.old cycles.old labels.new cycles.new result }
 {
     let n = s.len() / WIDTH;
     let m = count_firsts(s, starts, firsts, n);
@@ -264,8 +261,7 @@ fn list_sound(
 // second.
 #[tactic(auto, using(crate::proofs::Sets::answering))]
 pub fn faces(chart: &[i16], labels: &mut [u16], cycles: &mut [u16]) -> FaceList
-    ensures { Lists chart.now labels.old cycles.old
-        labels.new cycles.new result }
+    ensures { Lists chart.now labels.old cycles.old labels.new cycles.new result }
 {
     let c = cycles_of(chart);
     let starts = c.starts;

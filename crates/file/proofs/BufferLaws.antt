@@ -1,5 +1,5 @@
 -- How many bytes of a chart file settle what it gives (document 01: "bytes past the buffer change no answer").
---     number_at-append    bytes past the third of a number change nothing of it
+--     number_at-append   bytes past the third of a number change nothing of it
 --     fields-append      bytes past the most that m numbers can take, and two more, change nothing of them
 --     past               bytes past the longest file and two more change no answer
 --     buffered-by        so a buffer of so many is enough

@@ -1,6 +1,6 @@
 -- A whole file, by what the code has seen of it. A law for each return of `read_records` and `read`; `reading` has them
 -- all. A bound k is any that refuses no more, so that a wrong one is refused for what it lets through.
---     end_of-taken      numbers that end somewhere can all be taken
+--     end_of-taken     numbers that end somewhere can all be taken
 --     fields-length    and are as many as were asked for
 -- Assumes nothing.
 use mathlib.Core.Path.{◌≡◌, refl, sym, ap, ◌∙◌}

@@ -2,7 +2,7 @@
 --     size k             how many bytes the number for the place k of the array takes at the most: a mark 1, another 3
 --     most k m           how many the m numbers from the place k on take at the most
 --     most-records       13 a record
---     field_at-size, fields-next, records-next    so it is of one number, of m numbers, of n records
+--     field_at-size, fields-next, records-next   so it is of one number, of m numbers, of n records
 --     count_next         a count of 512 or less takes at most 2
 --     longest, longest-bytes    so the longest file that can be taken has no more than 2 + 13 * 512 = 6,658 bytes
 -- That there is one so long is a law of proofs/LongestLaws.antt.

@@ -1,8 +1,8 @@
 -- That a chart file of 6,658 bytes is taken: the bound of proofs/LengthLaws.antt is the least there is.
---     long_file n            n records of the longest kind (proofs/ManyLaws.antt) after their count in two bytes
---     long_file-length       it has 2 + 13 * n bytes
---     long_file-bytes        all of them below 256
---     long_file-taken        it is taken, for any count from 128 to 512
+--     long_file n           n records of the longest kind (proofs/ManyLaws.antt) after their count in two bytes
+--     long_file-length      it has 2 + 13 * n bytes
+--     long_file-bytes       all of them below 256
+--     long_file-taken       it is taken, for any count from 128 to 512
 --     longest-reached       so one of 6,658 bytes is, by any array that has room for 512 records
 -- Assumes nothing.
 use mathlib.Core.Path.{◌≡◌, refl, ap, ◌∙◌}

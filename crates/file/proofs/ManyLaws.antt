@@ -1,6 +1,6 @@
 -- Records of a chart file that take as many bytes as a record can: four numbers of three bytes, and a mark.
---     many_bytes n        n of them as bytes
---     many_numbers n      as the array gets them
+--     many_bytes n       n of them as bytes
+--     many_numbers n     as the array gets them
 --     many-length        they have 13 * n bytes
 --     many-bytes         all of them below 256
 --     records-taken      they are taken, from any place of a file where they stand to the place 13 * n on

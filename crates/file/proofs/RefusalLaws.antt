@@ -3,8 +3,8 @@
 --                         taken is long
 --     Told s r            r is one of the refusals 31 to 36, and its place is such a one
 --     numbers             its number is no more than 36
---     file_of-told         so is every refusal of a file
---     file_of-end          a file that is taken is read to its end
+--     file_of-told        so is every refusal of a file
+--     file_of-end         a file that is taken is read to its end
 -- Assumes nothing.
 use mathlib.Core.Path.{◌≡◌, refl, sym, subst, ◌∙◌}
 use mathlib.Core.Logic.{◌⊎◌, inl, inr}

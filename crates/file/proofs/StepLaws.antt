@@ -1,6 +1,6 @@
 -- What is known of numbers of a chart file that are taken (specs/Fields.antt, specs/Files.antt).
 --     not_taken          those that are refused are not
---     Takes s k at next, field_at-next    of the number at the place `at` that the array gets at its place k
+--     Takes s k at next, field_at-next   of the number at the place `at` that the array gets at its place k
 --     Step s k m at end zs, fields-step    of one number and m more: the first is taken, and so are the others
 -- Assumes nothing.
 use mathlib.Core.Path.{◌≡◌, refl, sym, ◌∙◌}

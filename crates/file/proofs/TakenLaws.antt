@@ -1,5 +1,5 @@
 -- What is known of a chart file that is taken (specs/Files.antt).
---     Parts s room end zs, file_of-parts    its count, its records, and that nothing is left after them
+--     Parts s room end zs, file_of-parts   its count, its records, and that nothing is left after them
 -- Assumes nothing.
 use mathlib.Core.Path.{◌≡◌, refl}
 use mathlib.Core.Bool.{Bool, true, false, cond}

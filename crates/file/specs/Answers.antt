@@ -1,8 +1,8 @@
 -- What reading a chart file answers and leaves (document 01: "The array is written only on success, five numbers per
 -- record; places beyond stay"). t is what was taken from the file (specs/Files.antt).
---     answer_of t           the answer: how many records were read, or the refusal
---     read_refusal a        the paper's number and place for each case: 0 and 0 where the file is read
---     is_file_refusal k      k is one of document 01's refusals of a file
+--     answer_of t          the answer: how many records were read, or the refusal
+--     read_refusal a       the paper's number and place for each case: 0 and 0 where the file is read
+--     is_file_refusal k    k is one of document 01's refusals of a file
 --     contents t lent      what the lent array holds then
 --     Gives t lent out a   the answer is a, and the array that was `lent` is then `out`
 --     Reads s lent out a   so it is of a file s

@@ -4,10 +4,10 @@
 --     refused at             33, at the first byte of the number
 --     coordinate n at next   the signed number that n stands for; 33 "a coordinate off the grid"
 --     mark n at next         n itself; 33 "or a mark above 1"
---     is_mark k               the last of a record's five numbers is the mark
+--     is_mark k              the last of a record's five numbers is the mark
 --     field k n at next      what the array gets at its place k, and the next place of the file
---     field_in k at a         the same of what stands at the place `at`: the refusal, where that is no number
---     field_at s k at         the same of the number at the place `at` of a file s
+--     field_in k at a        the same of what stands at the place `at`: the refusal, where that is no number
+--     field_at s k at        the same of the number at the place `at` of a file s
 -- Assumes nothing.
 use Rattle.std.specs.Prelude.{Bool, cond, List, ℕ, ◌%◌, leb, eqb, pos}
 use Rattle.grid.specs.Coordinates.{on_grid}

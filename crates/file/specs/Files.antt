@@ -1,16 +1,16 @@
 -- A chart file (document 01, "The chart file": "A file is the record count, then each record: four signed numbers and
 -- the mark"). s are the file's bytes. "Refusals, by first place met".
 --     Taken                what is taken from a file: numbers of the array, and the place after them; or the refusal
---     refused_by k at       refusal k at the place `at`
+--     refused_by k at      refusal k at the place `at`
 --     onto z t             the number z before those of t
 --     after f rest         the number of the field f, then the rest, which begins at the place after it
 --     fields s k m at      m numbers of the array, from its place k on, taken from the place `at` on: 31, 32, 33
 --     whole s t            34 "bytes left over"; the place is "the first byte left over"
---     records_of s n from   n records from the place `from` on, and nothing after them
+--     records_of s n from  n records from the place `from` on, and nothing after them
 --     counted s room c     the file whose count is c, for a lent array of `room` numbers:
 --                          35 "count above 512", 36 "lent array too short for the count", at the place 0
 --                          ("directly after the count, in that order")
---     file_of s room        the file s
+--     file_of s room       the file s
 -- Assumes nothing.
 use Rattle.std.specs.Prelude.{cond, List, [], ◌∷◌, ℕ, zero, suc, ◌*◌, ltb, ℤ, length}
 use Rattle.record.specs.Records.{width}

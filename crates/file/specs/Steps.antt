@@ -1,6 +1,6 @@
 -- What the first pass over a file's numbers finds.
---     is_taken t     they can be taken
---     end_of t       where they end, or the refusal
+--     is_taken t    they can be taken
+--     end_of t      where they end, or the refusal
 -- Assumes nothing.
 use Rattle.std.specs.Prelude.{Bool, true, false}
 use Rattle.file.specs.declared.End.{End}

@@ -7,7 +7,7 @@
 --     multiple-value           and a multiple of 1/256 has its size and sign for its value
 --     positive-value           so one whose 256ths are n above zero is n / 256
 --     zero-exactly             the positive zero is exactly 0
---     float_of                  the float of z 256ths
+--     float_of                 the float of z 256ths
 --     float-exactly            it is exactly that, if z is below 2 ^ 53 in size
 --     le-exactly               comparing two such floats compares their 256ths
 --     castable, cut-exactly    such a float is in range of an i64, and the cast drops its fraction towards zero

@@ -1,6 +1,6 @@
 -- The range of `units_of`: a float passes both of its comparisons exactly if its size is no more than 65,536.
 --     low, high          the ends as the code has them
---     is_near x           a multiple of 1/256 of size 65,536 at the most
+--     is_near x          a multiple of 1/256 of size 65,536 at the most
 --     zero-near          that is `is_zero`
 --     zero-most          so what may be a zero is of that size at the most
 --     Within x           x is a number of size 65,536 at the most

@@ -1,12 +1,12 @@
 -- The gauge card's rules (document 01: "Rate and gain are powers of two from 1/256 to 256. Pin is a multiple of 1/256
 -- from 1/256 to 65,536; zero is one from -65,536 to 65,536. A NaN or an infinity breaks these rules"), in 256ths.
---     powers             how many powers of two there are from 1/256 to 256
---     is_power n k        n is 2 ^ k
---     is_factor x         x may be a rate or a gain
---     most               65,536 in 256ths
---     is_from a b x       x is a multiple of 1/256 from a 256ths to b 256ths
+--     powers               how many powers of two there are from 1/256 to 256
+--     is_power n k         n is 2 ^ k
+--     is_factor x          x may be a rate or a gain
+--     most                 65,536 in 256ths
+--     is_from a b x        x is a multiple of 1/256 from a 256ths to b 256ths
 --     is_pin x, is_zero x  x may be a pin; x may be a zero. Negative zero is no pin, and as a zero it is 0
---     sound c            the card keeps the rules
+--     sound c              the card keeps the rules
 -- A NaN and an infinity are no multiples, so they are none of these. Assumes nothing.
 use Rattle.std.specs.Prelude.{ℕ, ◌*◌, ◌^◌, Bool, ◌&&◌, ℤ, pos, neg_ℤ, ◌==◌, int_le, unsigned_abs, Float}
 use Rattle.std.specs.Int.Signed.{non_neg}

@@ -1,9 +1,9 @@
 -- A sample's reading by a card (document 01, "Gauges"). Pressures are in 256ths.
 --     pressure c n     "Sample times rate, or sample times gain minus zero"
 --     row z            "the pressure with its fraction dropped towards zero"
---     at_pin c n        22: "spring: the sample is negative, or the pressure is at or past the pin"
+--     at_pin c n       22: "spring: the sample is negative, or the pressure is at or past the pin"
 --     refusal c n      21, 22, 23, "in that order"; 0 where the sample is read
---     refused_by k      refusal k: "pressure (positive zero) and row are then zero"
+--     refused_by k     refusal k: "pressure (positive zero) and row are then zero"
 --     answered c n z   z where the sample is read, 0 where it is refused
 --     Gauges c n g     what is handed back: the refusal's number, and "the exact pressure as a float beside the grid
 --                      row", both zero where the sample is refused

@@ -3,10 +3,10 @@
 -- one, and `fits binary64 x` says that x is such a float.)
 -- One unit serves every rule and every pressure. Rate and gain are powers of two and no less than 1/256, so they are
 -- whole numbers of 256ths, as pin and zero are; a whole sample times such a number is one again, and a difference too.
---     in_units m e      m * 2 ^ e in 256ths, over down e
+--     in_units m e     m * 2 ^ e in 256ths, over down e
 --     size x           how many 256ths x is without its sign, what is left over cut off
---     is_multiple x     x is a multiple of 1/256: a number, and nothing is left over
---     has_minus x       x has a minus sign
+--     is_multiple x    x is a multiple of 1/256: a number, and nothing is left over
+--     has_minus x      x has a minus sign
 --     signed s n       n, or -n where s is true
 --     units x          such an x in 256ths. Negative zero is 0
 --     Exactly x z      x is z 256ths, no more and no less: a 64-bit float that is a number, its sign that of z and its

@@ -1,7 +1,7 @@
 -- What the casts, the sum and the difference of `count_of` and `number_at` ask, as the language states them: a signed
 -- value goes through its bits, `to_z w (of_z w z)`. Here it is brought back to the number once.
 --     widened-fits, sum_fits, count-is              up: a number, widened, and 32,768 more
---     point_of-cast, point_of-passed                  two coordinates passed on to a call
+--     point_of-cast, point_of-passed                two coordinates passed on to a call
 --     difference-fits, narrowed-fits, number_is     down: a count, widened, and 32,768 less
 --     natural-fits          for any caller: a number of 64 bits that is not below zero can be cast to unsigned
 -- The sum and the difference fit at any step k, so that a wrong step is refused for what it answers.

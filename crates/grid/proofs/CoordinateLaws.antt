@@ -1,5 +1,5 @@
 -- Laws of coordinates and their counts (specs/Coordinates.antt), over the signed numbers.
---     on_grid-fits, fits-on_grid    a coordinate is a number whose magnitude is below 32,768, as the language sees it
+--     on_grid-fits, fits-on_grid  a coordinate is a number whose magnitude is below 32,768, as the language sees it
 --     located-low, located-high    a number past an end, or past any bound beyond it, is Off
 --     located-on, on_fits          any other is the coordinate
 --     up_small            a count is below 65,536

@@ -3,7 +3,7 @@
 --     before-signed      `before` is document 01's order by x, then y, of the signed coordinates
 --     same-signed        and `same` their equality
 --     direction-signed   the way between two points is the difference of their signed coordinates
---     turns_left-signed   so a turn is the sign of document 01's determinant over the signed coordinates
+--     turns_left-signed  so a turn is the sign of document 01's determinant over the signed coordinates
 -- Assumes nothing.
 use mathlib.Core.Path.{◌≡◌, sym, ap, ap₂, ◌∙◌}
 use mathlib.Core.Logic.{◌⊎◌, inl, inr, ◌↔◌}

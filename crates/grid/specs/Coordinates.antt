@@ -1,12 +1,12 @@
 -- Coordinates (document 01: "Coordinates are signed sixteen-bit; the grid's own ends, -32,768 and 32,767, belong to the
 -- coordinate type"), and how far each lies above the grid's lower end.
 --     least, greatest    the grid's own ends
---     coord_of z     the coordinate that is the number z
---     on_grid z      z is a coordinate: from the one end to the other
+--     coord_of z    the coordinate that is the number z
+--     on_grid z     z is a coordinate: from the one end to the other
 --     located z     the coordinate z, or Off
 --     up z          how far z lies above the lower end: -32,768 is 0 and 32,767 is 65,535
 --     down n        the way back, for a count below 65,536
---     point_of x y   the point with these coordinates, counted
+--     point_of x y  the point with these coordinates, counted
 -- That each is the other's inverse, that `up` keeps the order and every difference are laws of
 -- proofs/CoordinateLaws.antt; so points compare and turn as their signed coordinates do, by proofs/SignedLaws.antt.
 -- Assumes nothing.

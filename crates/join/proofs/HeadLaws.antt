@@ -1,6 +1,6 @@
 -- Two charts a and b of which the records from i and from j on are left: which of the two heads is smaller, and that no
 -- record that is left precedes it.
---     record_at-drop       what is left of an array begins with record i
+--     record_at-drop      what is left of an array begins with record i
 --     head_first          the head is the first chart's: it has one, which that of the second, if any, does not precede
 --     head-second         the head is the second chart's: it has one, which precedes that of the first, if any
 --     head-neither        neither has a record left

@@ -2,7 +2,7 @@
 -- `outcomes` has them all. A bound l is any that refuses no more, so that a wrong one is refused for what it lets
 -- through.
 --     accepted-region     what the check accepts is a region
---     touches_in-is        a record of the first chart touches the second
+--     touches_in-is       a record of the first chart touches the second
 -- Assumes nothing.
 use mathlib.Core.Path.{◌≡◌, refl, sym, ap, ◌∙◌}
 use mathlib.Core.Bool.{Bool, true, false}

@@ -1,6 +1,6 @@
 -- The kept records that are left of two charts a and b, in record order: of the first from record i on, and of the
 -- second from record j on.
---     rest_of op a b i j     they are these
+--     rest_of op a b i j    they are these
 --     rest_all              at the beginning, all that are kept
 --     rest-first, rest-second    one record on, where it is the smaller head
 --     rest-none             none, where no record is left

@@ -3,19 +3,19 @@
 --     result_of op a b       the result's records
 --     touches_in b r         the segment of r touches a segment of b
 --     first_touching a b     the first record of a of which this holds; the number of records where there is none
---     Outcome               the records of the result; or a refusal with the chart that it names, 0 where it names none
+--     Outcome                the records of the result; or a refusal with the chart that it names, 0 where it names none
 --     none_named k i         refusal k at record i, which names no chart
 --     unless_refused c v o   o, unless v refuses the chart c
 --     joined_in op a b room  of two accepted charts, for a lent array of `room` numbers:
---                           11 a segment of one touches a segment of the other, at the first such record of the first
---                           12 the result has more than 512 records
---                           13 the lent array is shorter than the result
---     outcome op a b room   of any two arrays: first the refusals of the first chart, then of the second
+--                            11 a segment of one touches a segment of the other, at the first such record of the first
+--                            12 the result has more than 512 records
+--                            13 the lent array is shorter than the result
+--     outcome op a b room    of any two arrays: first the refusals of the first chart, then of the second
 --     answer_of o            the answer: the number of records written, or the refusal
---     contents o lent       what the lent array holds then: the result's numbers at its start, the rest as it was
---     join_refusal j, chart_named j    the paper's number and index for each case, and the chart named: 0 where the
+--     contents o lent        what the lent array holds then: the result's numbers at its start, the rest as it was
+--     join_refusal j, chart_named j  the paper's number and index for each case, and the chart named: 0 where the
 --                           question was answered
---     is_join_refusal k       k is one of document 01's refusals of joining that name no chart
+--     is_join_refusal k     k is one of document 01's refusals of joining that name no chart
 --     Gives o lent out j    the answer is j, and the array that was `lent` is then `out`
 --     Joins op a b lent out j    so it is of any two arrays
 -- Assumes nothing.

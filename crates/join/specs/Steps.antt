@@ -1,8 +1,8 @@
 -- What the functions inside find on the way: devices that their contracts cite. a and b are the two charts.
 --     Sized op a b n           the result has n records, which is no more than the charts have together
---     side_result op a b        the kept records in record order, each with the mark by its upper sides
+--     side_result op a b       the kept records in record order, each with the mark by its upper sides
 --     written op a b lent      the array with the numbers of these at its start, the rest as it was
---     with_record lent n r      the array with the numbers of r for its record n
+--     with_record lent n r     the array with the numbers of r for its record n
 -- Where `kept` tells which records are kept, `mark` how they stand in the result, and n of them are written:
 --     Room kept r lent n       the array has room for r too, where it is kept
 --     Took kept mark r lent n out m    where it is kept it was written next; so the array is then `out`, with m records

@@ -1,7 +1,7 @@
 -- Where a point lies, told by the mark of the nearest segment below it (specs/Nearests.antt), in a sound chart.
 --     below-named, below-nothing    the parity of the number below, by the first record that is nearest: its mark; even
 --                                   where there is none
---     by_mark-by_count                so the mark says what the count says, or Outside where there is nothing below
+--     by_mark-by_count              so the mark says what the count says, or Outside where there is nothing below
 -- Assumes nothing.
 use mathlib.Core.Path.{◌≡◌, refl, sym, ap, ◌∙◌}
 use mathlib.Core.Bool.{Bool, true, false, cond}

@@ -1,7 +1,7 @@
 -- The nearest below, as a program finds it (specs/Nearests.antt): from what its loops answer over the first n records.
---     higher_below-counted, -uncounted      by whether the record's segment is counted below the point
---     nearest_of-at, nearest_of-nothing      by the first place of the nearest
---     nearest_below-accepted, -refused      by the verdict
+--     higher_below-counted, -uncounted     by whether the record's segment is counted below the point
+--     nearest_of-at, nearest_of-nothing    by the first place of the nearest
+--     nearest_below-accepted, -refused     by the verdict
 -- Assumes nothing.
 use mathlib.Core.Path.{◌≡◌, sym, ap, ◌∙◌}
 use mathlib.Core.Bool.{Bool, true, false, ◌&&◌, cond}

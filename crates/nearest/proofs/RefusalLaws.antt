@@ -1,5 +1,5 @@
 -- The nearest below first gives the chart's refusal, and no refusal where it is answered.
---     nearest_below-refusal    so, in the paper's number and index
+--     nearest_below-refusal   so, in the paper's number and index
 -- Assumes nothing.
 use mathlib.Core.Path.{◌≡◌, refl}
 use mathlib.Core.Bool.{Bool, true, false, cond}

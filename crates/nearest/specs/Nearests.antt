@@ -1,10 +1,10 @@
 -- The nearest segment below a point of a chart (document 01, "Points, corners and heads"), as an answer to an array of
 -- numbers, and what its side mark says. What is nearest below a point: region's specs/Boundaries.antt.
---     nearest_of s n p      the index of the first record among n that is nearest below p; Nothing where there is none
---     nearest_if v a        the answer a, or the refusal that v gives
---     nearest_below s p     the nearest below p in the chart s: first its refusal, if it is no chart
---     nearest_refusal a     the paper's number and index for each case: 0 and 0 where it is answered
---     by_mark s a           what the side mark of the record that a names says: Inside where it is 1, else Outside;
+--     nearest_of s n p     the index of the first record among n that is nearest below p; Nothing where there is none
+--     nearest_if v a       the answer a, or the refusal that v gives
+--     nearest_below s p    the nearest below p in the chart s: first its refusal, if it is no chart
+--     nearest_refusal a    the paper's number and index for each case: 0 and 0 where it is answered
+--     by_mark s a          what the side mark of the record that a names says: Inside where it is 1, else Outside;
 --                          Outside where a names none
 -- Assumes nothing.
 use Rattle.std.specs.Prelude.{cond, List, ℕ, ltb, eqb, ℤ}

@@ -1,7 +1,7 @@
 -- The highest below a point, found in one pass: what a search that compares each record with the highest so far alone
 -- comes to, in any array. That in a sound chart it is the nearest: `highest-nearest` of proofs/PassLaws.antt.
 --     climb s p b i k      the highest so far stands at b, and k records from record i on are compared with it
---     highest_below s p     from the first that is counted below p on: the number of records where there is none
+--     highest_below s p    from the first that is counted below p on: the number of records where there is none
 --     Highest s p b        b is that, with its range
 -- Assumes nothing.
 use Rattle.std.specs.Prelude.{◌≡◌, cond, List, ℕ, zero, suc, ◌-◌, ◌≤◌, ℤ}

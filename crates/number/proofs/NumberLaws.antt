@@ -1,5 +1,5 @@
 -- Laws of one number of a file.
---     number_in-groups   the number, group by group
+--     number_in-groups  the number, group by group
 -- Assumes nothing.
 use mathlib.Core.Path.{◌≡◌, refl}
 use mathlib.Core.Bool.{Bool, true, false, cond, not, ◌&&◌}

@@ -2,8 +2,8 @@
 --     Size bs at n next    of the number n that the bytes bs begin with, from the place `at` to the place `next`: it
 --                          takes a byte at the least and three at the most, all of them there, and no more than it
 --                          needs
---     number_in-size        so it is of every number that is taken
---     number_in-append      bytes past the third change nothing of it
+--     number_in-size       so it is of every number that is taken
+--     number_in-append     bytes past the third change nothing of it
 -- Assumes nothing.
 use mathlib.Core.Path.{◌≡◌, refl}
 use mathlib.Core.Bool.{Bool, true, false, cond}

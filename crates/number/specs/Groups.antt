@@ -1,6 +1,6 @@
 -- One number of a chart file group by group, as the code reads it.
 --     first_group bs at       the number whose bytes are bs, at the place `at`. That it is `number_in` is a law of
---                            proofs/NumberLaws.antt
+--                             proofs/NumberLaws.antt
 --     second_group n bs at    the same where the first group gives n, bs being the bytes after it
 --     third_group n bs at     the same where the first two groups give n
 --     last_group b n at next  the number n, whose last group b comes after another

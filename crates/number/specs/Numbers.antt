@@ -1,19 +1,19 @@
 -- One number of a chart file (document 01, "The chart file": "A number is written in groups of seven bits, lowest
 -- first, high bit set on all but the last"). bs are the bytes from its first one on, which is at the place `at`.
---     goes_on b         the high bit of the byte b is set
+--     goes_on b        the high bit of the byte b is set
 --     bits b           its seven bits
---     last_of bs        how many groups have their high bit set before the first that has not; the length where all have
---     value_of gs       what the groups gs make, lowest first
+--     last_of bs       how many groups have their high bit set before the first that has not; the length where all have
+--     value_of gs      what the groups gs make, lowest first
 --     refused k at     refusal k: "The place is the first byte of the number"
---     number_in bs at   the number, and the place after it; or
+--     number_in bs at  the number, and the place after it; or
 --                      32  "a third group with its high bit set, whatever follows"
 --                      31  "bytes end inside a number or before it"
 --                      32  "or a last group of zero after another"
 --     number_at s at    the number at the place `at` of a file s
 --     number_refusal a  the paper's number and place for each case: 0 and 0 where there is a number
---     written z        "Signed n is written as 2n, or -2n-1 below zero"
---     signed n         the signed number that is written as n: `signed-written`, `written-signed` are laws of
---                      proofs/SignedLaws.antt
+--     written z         "Signed n is written as 2n, or -2n-1 below zero"
+--     signed n          the signed number that is written as n: `signed-written`, `written-signed` are laws of
+--                       proofs/SignedLaws.antt
 -- Assumes nothing.
 use Rattle.std.specs.Prelude.{Bool, cond, not, ◌&&◌, List, [], ◌∷◌, ℕ, ◌+◌, ◌*◌, ◌/◌, ◌%◌, ltb, leb, eqb, ℤ, pos, negsuc, length, get_or, take, drop}
 use Rattle.counts.specs.Count.{first_index}

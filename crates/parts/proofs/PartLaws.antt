@@ -1,9 +1,9 @@
 -- Laws of the parts that are handed back (specs/Parts.antt), case by case as a program finds them.
---     from_second-short, from_second-alone, from_second-both    by which arrays have a whole record
---     from_second-whole         the second array's head is there if it is the smaller
---     head_of-second, head_of-neither, head_of-first            which array holds the smaller head, in each case
+--     from_second-short, from_second-alone, from_second-both  by which arrays have a whole record
+--     from_second-whole        the second array's head is there if it is the smaller
+--     head_of-second, head_of-neither, head_of-first         which array holds the smaller head, in each case
 --     first-whole, second-whole                              and that it has a whole record
---     run_of-none, run_of-some   the run, from the two places that were found
+--     run_of-none, run_of-some  the run, from the two places that were found
 --     Within s a, run-within    a lies in s, and so does the run
 --     run_rises, run_short      the two halves of that, for a function that cuts by the run
 --     first_high                a first place is at most n

@@ -2,16 +2,16 @@
 --     Part s a r         r is that very part of s, from number `a.from` up to number `a.upto`: its numbers, and where
 --                        it points
 --     nowhere            the empty part at an array's beginning
---     at_corner p r       r's dominating end is p; off_corner is the opposite
---     first_there s p, first_past s p    the first record at p, and the first later one that is not; the number of
+--     at_corner p r      r's dominating end is p; off_corner is the opposite
+--     first_there s p, first_past s p  the first record at p, and the first later one that is not; the number of
 --                        records where there is none
---     run_of s p          where the run of records at p lies in s: from the one to the other; nowhere if there is none
+--     run_of s p         where the run of records at p lies in s: from the one to the other; nowhere if there is none
 --     Run s p r          r is that run of s
---     whole_record s      s has a whole record left: five numbers
---     from_second a b     the smaller head is the second array's: it has one, and comes strictly earlier or the first
+--     whole_record s     s has a whole record left: five numbers
+--     from_second a b    the smaller head is the second array's: it has one, and comes strictly earlier or the first
 --                        has none
---     head_of a b         which array holds the smaller head, neither where both have fewer than five numbers
---     holder h a b, first_record h    the array of a and b that the head h is a part of, and which part
+--     head_of a b        which array holds the smaller head, neither where both have fewer than five numbers
+--     holder h a b, first_record h   the array of a and b that the head h is a part of, and which part
 --     SmallerHead a b r  r is the smaller head of a and b, a part of whichever holds it; else the empty part at the
 --                        first array's beginning
 -- These ask nothing of the array: it need be no chart. Assumes nothing.

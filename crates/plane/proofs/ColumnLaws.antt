@@ -3,12 +3,12 @@
 --     reaches-covers             just left of the next column is just right of this one
 --     covers-spans               what covers x spans that column, the middle of the strip right of it, the next column
 --     reaches-spans              what reaches x spans that column and the middle of the strip left of it
---     counted_for-slanted         "just right of x lie at or below it": lower at x, or level there and no higher in the
+--     counted_for-slanted        "just right of x lie at or below it": lower at x, or level there and no higher in the
 --                                middle of the strip right of x
---     counted_for-vertical        "whose height at x is at most y"
---     counted_for-uncovered, counted_for-unreached     nothing else is counted
---     below_point-is              "lying strictly below it there"
---     below_point-uncovered       and nothing else is
+--     counted_for-vertical       "whose height at x is at most y"
+--     counted_for-uncovered, counted_for-unreached   nothing else is counted
+--     below_point-is             "lying strictly below it there"
+--     below_point-uncovered      and nothing else is
 --     higher-is                  "the highest counted there; if several start at one point, the highest just to the
 --                                right"
 -- Segments are straight over a strip, so of two that are level at x its middle says which is higher just right of x.

@@ -1,8 +1,8 @@
 -- The three tests of specs/Turns.antt are the determinant's sign; and what they say when the points change places.
 --     determinant-is    the determinant is plus less minus
---     turns_left-is, turns_right-is, straight-is     the tests are its sign
---     plus_turn, minus-turn, turns_left-turn     from the next corner: the same
---     plus-swap, minus-swap, turns_left-swap, turns_right-swap     two corners exchanged: the other way
+--     turns_left-is, turns_right-is, straight-is   the tests are its sign
+--     plus_turn, minus-turn, turns_left-turn    from the next corner: the same
+--     plus-swap, minus-swap, turns_left-swap, turns_right-swap   two corners exchanged: the other way
 -- Assumes nothing.
 use mathlib.Core.Path.{◌≡◌, sym, ap, ap₂, ◌∙◌}
 use mathlib.Core.Logic.{◌↔◌}

@@ -1,6 +1,6 @@
 -- What the tests on points say, and that `before` orders them.
 --     same_true, same_refl                               `same` is equality
---     is_segment-true, is_segment-refl                     so is `is_segment`
+--     is_segment-true, is_segment-refl                   so is `is_segment`
 --     Before p q, before-true, before-intro              `before` as a statement, both ways
 --     before-irrefl, before-trans, before-once           no point before itself; through a third point; not both ways
 --     trichotomy                                         of two points one is before the other, or they are one

@@ -1,6 +1,6 @@
 -- At an end of a segment, and within it by weights: `within` is being strictly between its ends.
 --     EndOf s p         p is an end of s
---     ends_at-is         the test `ends_at` is that
+--     ends_at-is        the test `ends_at` is that
 --     Between s p       p lies strictly between the ends of s: α parts of one and β of the other, both positive
 --     within-between    what passes the test does so, whichever end of s is the smaller
 --     within-is         for s with the smaller end first, just that passes

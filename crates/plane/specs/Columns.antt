@@ -3,15 +3,15 @@
 --     covers x s       its left x is at most x and its right x exceeds x: just right of x there is s
 --     reaches x s      its left x is below x and its right x is at least x: just left of x there is s
 --                      (neither holds of a vertical one, so what is counted by them is not vertical)
---     counted_for s t   t is counted for the mark of s. For s not vertical: t covers the column of the left end of s and
+--     counted_for s t  t is counted for the mark of s. For s not vertical: t covers the column of the left end of s and
 --                      lies at or below s just right of it, that is, it passes below that end, or through it and then
 --                      goes no higher. For s vertical: t reaches the column, and its height there is at most the
 --                      lower end's
---     below_point p t   t covers the column of p and lies strictly below p there
+--     below_point p t  t covers the column of p and lies strictly below p there
 --     breadth s        how far s goes across
 --     rise x s         the height of s at column x, times its breadth: a whole number
 --     higher x s t     at column x, s is higher than t; or both start at one point, and s is higher just right of it
---     ends_at p s       p is an end of s
+--     ends_at p s      p is an end of s
 --     holds p s        p lies on s, ends included
 -- Assumes nothing.
 use Rattle.std.specs.Prelude.{Bool, not, cond, ◌&&◌, ◌||◌, ℕ, ◌+◌, ◌-◌, ◌*◌, ltb, leb, eqb}

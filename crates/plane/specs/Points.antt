@@ -1,7 +1,7 @@
 -- Points and their order (document 01: "Points are ordered by x, then y").
---     before p q     p is the smaller
---     same p q       they are one point
---     Forward s      a is the smaller end of s, as of every segment of a chart
+--     before p q      p is the smaller
+--     same p q        they are one point
+--     Forward s       a is the smaller end of s, as of every segment of a chart
 --     is_segment s t  t is the segment s
 -- Assumes nothing.
 use Rattle.std.specs.Prelude.{◌≡◌, Bool, true, ◌&&◌, ◌||◌, ltb, eqb}

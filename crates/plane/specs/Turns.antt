@@ -5,9 +5,9 @@
 --     determinant u v    of two directions: positive where u turns counter-clockwise onto v, zero in line
 --     plus p q r, minus p q r    the determinant of the ways from p to q and from p to r is plus less minus;
 --                        both are sums of products of counts, so a program compares them and never subtracts
---     largest_product     how far a product inside a determinant reaches: 65,535 squared, 4,294,836,225
---     turns_left, turns_right, straight   from p, the way to q turns counter-clockwise, clockwise or not
---                                       onto the way to r
+--     largest_product    how far a product inside a determinant reaches: 65,535 squared, 4,294,836,225
+--     turns_left, turns_right, straight  from p, the way to q turns counter-clockwise, clockwise or not
+--                                        onto the way to r
 -- That the three tests are the determinant's sign is `turns_left-is`, `turns_right-is` and `straight-is` of
 -- proofs/DeterminantLaws.antt; how far the products reach is `product-range` of proofs/RangeLaws.antt.
 -- Assumes nothing.

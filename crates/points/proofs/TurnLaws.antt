@@ -1,6 +1,6 @@
 -- Laws of `turn_of` (specs/Turning.antt).
---     turn_of-left, -right, -straight                its value in each case, from the two sums that a program compares
---     turn_of-says-left, -right, -straight           what each answer says of the tests on turns
+--     turn_of-left, -right, -straight               its value in each case, from the two sums that a program compares
+--     turn_of-says-left, -right, -straight          what each answer says of the tests on turns
 -- Assumes nothing.
 use mathlib.Core.Path.{◌≡◌, refl}
 use mathlib.Core.Bool.{Bool, true, false, cond}

@@ -1,5 +1,5 @@
 -- How three points turn, as an answer, and the ranges of what is computed on the way.
---     turn_of p q r       how the way from p to q turns onto the way from p to r: the determinant's sign
+--     turn_of p q r      how the way from p to q turns onto the way from p to r: the determinant's sign
 --                        (specs/Turns.antt of plane)
 --     Product a b r      r is the product of two counts, and no more than 65,535 squared
 --     TurnSum n s        s is n, one of the two sums of a turn, and no more than three such products

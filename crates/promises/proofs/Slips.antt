@@ -1,8 +1,8 @@
 -- Why document 01 counts as it does: three slips, each with an accepted chart and a point on which it goes wrong. Three
 -- edits in region's must-fail/ make them; this shows that they are refused because what they make of the rule is false.
---     both_ends         right_end_counted: a segment counted at its right end too
---     with_verticals    verticals_counted: a vertical one counted where it lies below the point
---     any_highest       tie_dropped: any of the highest, though another that starts with it is higher just to the right
+--     both_ends        right_end_counted: a segment counted at its right end too
+--     with_verticals   verticals_counted: a vertical one counted where it lies below the point
+--     any_highest      tie_dropped: any of the highest, though another that starts with it is higher just to the right
 --     wedge, diamond   (0,0), (4,0), (4,4), and (0,2), (2,0), (4,2), (2,4)
 --     Slips, slips     what each slip says of a point, and what is so
 -- Assumes nothing.

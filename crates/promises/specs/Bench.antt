@@ -1,9 +1,9 @@
 -- What document 01's bench examples speak of: charts, as arrays of numbers, gauge cards and readings.
---     square             corners (0,0) and (4,4)
---     last_mark_zero       the same with its last mark 0
---     bottom_marked_zero   the same with both halves of the bottom side marked 0
---     square_with_hole     the square plus the hole (0,0), (2,1), (1,2)
---     neighbour          the square's neighbour, corners (4,0) and (8,4)
+--     square              corners (0,0) and (4,4)
+--     last_mark_zero      the same with its last mark 0
+--     bottom_marked_zero  the same with both halves of the bottom side marked 0
+--     square_with_hole    the square plus the hole (0,0), (2,1), (1,2)
+--     neighbour           the square's neighbour, corners (4,0) and (8,4)
 --     large_triangle      (-32768,-32768), (32767,-32768), (-32768,32767)
 --     square_file         document 01's file of the square, byte by byte
 --     zero, half, one, two, thousand    as floats: m * 2 ^ e

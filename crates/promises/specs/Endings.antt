@@ -1,7 +1,7 @@
 -- How a question may end (demand 1: "with an answer or a numbered refusal of document 01"; "a refused question leaves
 -- the lent arrays untouched").
---     is_from l h k      k is one of l to h
---     is_refusal k       k is a refusal's number by document 01's tables: 1 to 13, 21 to 23 or 31 to 36
+--     is_from l h k     k is one of l to h
+--     is_refusal k      k is a refusal's number by document 01's tables: 1 to 13, 21 to 23 or 31 to 36
 --     Numbered k        a question that gives the number k is answered, which is number 0, or k is a refusal's
 --     Ends B k lent out     and where it is refused, the B that was lent is as it was
 -- Assumes nothing.

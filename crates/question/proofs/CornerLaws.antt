@@ -1,5 +1,5 @@
 -- Laws of the run at a corner of a chart (specs/Corners.antt).
---     corner_of-accepted, corner_of-refused    by the verdict
+--     corner_of-accepted, corner_of-refused  by the verdict
 --     corner-within                          it lies in the array; its halves, corner_rises and corner_ends
 --     corner-short                           and no further than the longest chart goes
 -- Assumes nothing.

@@ -1,8 +1,8 @@
 -- Where a point lies, as a program finds it (specs/Places.antt): from what its loops answer over the first n records.
---     place_by-edge, place_by-inside, place_by-outside    case by case
---     held-there                                       whether a segment holds it, by the first that does
---     below-odd                                        the parity below it by the count
---     placed-accepted, placed-refused                  by the verdict
+--     place_by-edge, place_by-inside, place_by-outside  case by case
+--     held-there                                        whether a segment holds it, by the first that does
+--     below-odd                                         the parity below it by the count
+--     placed-accepted, placed-refused                   by the verdict
 -- Assumes nothing.
 use mathlib.Core.Path.{◌≡◌, sym, ap, ap₂, ◌∙◌}
 use mathlib.Core.Bool.{Bool, true, false}

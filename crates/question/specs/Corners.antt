@@ -1,5 +1,5 @@
 -- The run at a corner of a chart (document 01: "an empty part if there is none or the chart is refused").
---     corner_of s p      where the run of the chart s at p lies: nowhere if the chart is refused
+--     corner_of s p     where the run of the chart s at p lies: nowhere if the chart is refused
 --     Corner s p r      r is that run, that very part of s
 -- Assumes nothing.
 use Rattle.std.specs.Prelude.{cond, List, ℤ}

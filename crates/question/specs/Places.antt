@@ -1,12 +1,12 @@
 -- Where a point lies to a chart (document 01, "Points, corners and heads"), as an answer to an array of numbers. What
 -- lies below a point: region's specs/Boundaries.antt.
---     by_count rs p      Inside where an odd number of segments lies below p, else Outside
---     place_by e b       Edge where e holds; else Inside where b does, else Outside
---     place_of rs p      Edge where a segment holds p; else by the count
---     place_if v a       the answer a, or the refusal that v gives
+--     by_count rs p     Inside where an odd number of segments lies below p, else Outside
+--     place_by e b      Edge where e holds; else Inside where b does, else Outside
+--     place_of rs p     Edge where a segment holds p; else by the count
+--     place_if v a      the answer a, or the refusal that v gives
 --     placed s p        where p lies to the chart s: first its refusal, if it is no chart
---     is_inside a        the answer is Inside
---     place_refusal a    the paper's number and index for each case: 0 and 0 where it is answered
+--     is_inside a       the answer is Inside
+--     place_refusal a   the paper's number and index for each case: 0 and 0 where it is answered
 -- Assumes nothing.
 use Rattle.std.specs.Prelude.{Bool, true, false, cond, List, ℤ}
 use Rattle.counts.specs.Count.{odd}

@@ -1,6 +1,6 @@
 -- Left and right halves, and the way that each goes from its dominating end.
 --     backward           a proper record that is no left half goes back
---     left-other_half     the other half of a proper record is of the other kind
+--     left-other_half    the other half of a proper record is of the other kind
 --     Goes b p q         from p, q lies where the other end of a left half (b) or of a right half does
 --     way b p q          the way from p to q; a right half's is turned about p
 --     heading b r        the way of a record

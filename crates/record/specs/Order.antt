@@ -1,9 +1,9 @@
 -- Halves and the order of two records (document 01, "How a chart is laid out").
 --     left r              a left half: the dominating end is the smaller; every other record is a right half
---     other_half r         the other half of its segment: the ends swapped, the mark the same
+--     other_half r        the other half of its segment: the ends swapped, the mark the same
 --     Proper r            its two ends differ
 --     gap m n             how far two counts lie apart
---     square_length r      the square of its length
+--     square_length r     the square of its length
 --     Squared r q         q is that square, and no more than two products of counts
 --     leads r e           at one end and of one half: r turns counter-clockwise onto e, or lies in line with it and is
 --                         shorter

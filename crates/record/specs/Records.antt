@@ -1,13 +1,13 @@
 -- Records out of a chart array (document 01: "A chart is an array of such numbers, five per record: x and y of the
 -- dominating end, x and y of the other end, side mark 0 or 1").
---     width             how many numbers a record takes
+--     width              how many numbers a record takes
 --     count_at s i       number i, counted from the grid's lower end
 --     point_at s i       the point whose x is number i
 --     record_at s i      record i; of an array that ends before it, what is missing reads as 0
 --     record_count s     how many whole records there are: numbers left over at the end belong to none
 --     first_records s n  the first n of them, in their order
---     records s         all of them
---     unmarked, marked  what the marks 0 and 1 read as
+--     records s          all of them
+--     unmarked, marked   what the marks 0 and 1 read as
 -- Assumes nothing.
 use Rattle.std.specs.Prelude.{List, ℕ, ◌+◌, ◌*◌, ◌/◌, ℤ, pos, length, get_or}
 use Rattle.counts.specs.Count.{listed}

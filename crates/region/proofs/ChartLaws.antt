@@ -1,9 +1,9 @@
 -- An accepted chart as the theory takes it: its records as the list of its segments, each left half standing for one.
 --     segments rs                    that list
---     of_segment-count, of_segment-any     counting records by their segments is counting segments
+--     of_segment-count, of_segment-any   counting records by their segments is counting segments
 --     segments-sum                   a sum over the left halves is a sum over the segments
 --     segments-mem, mem-segments     its members are the segments of the left halves
---     upper_side-is, lower_side-is     the two sides of a segment over the records are those over the segments
+--     upper_side-is, lower_side-is   the two sides of a segment over the records are those over the segments
 --     room rs                        a column past every one of them
 --     sound-chart                    the segments of a sound chart are a `SoundChart`
 -- Assumes nothing.

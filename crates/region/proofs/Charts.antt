@@ -5,12 +5,12 @@
 --     Clear ss s         s is one of them or touches none of them
 --     SoundChart W ss    an even chart, of which each segment is clear of the others
 --     upper ss s, lower ss s     the two sides of s over the chart, as specs/TwoSides.antt has them over its records
---     from_left M c η t   t comes to column c from the left, and is below the height η there
---     to_right M c η t    t goes on from column c to the right, and is below η there
+--     from_left M c η t  t comes to column c from the left, and is below the height η there
+--     to_right M c η t   t goes on from column c to the right, and is below η there
 --     across M c η t     t is vertical, on column c, and η lies above its lower end and no higher than its upper one
 --     under M s x t      t covers the strip right of column x, and is below s in the middle of it
---     up_to M s x t       the same, at or below
---     ends_up p t         t is vertical and ends at p, from below
+--     up_to M s x t      the same, at or below
+--     ends_up p t        t is vertical and ends at p, from below
 -- Assumes nothing.
 use mathlib.Core.Path.{◌≡◌}
 use mathlib.Core.Logic.{◌⊎◌}

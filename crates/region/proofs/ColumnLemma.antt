@@ -1,7 +1,7 @@
 -- The column lemma. At a column and a height: the segments that come from the left below that height, those that go
 -- on to the right below it, and the vertical ones across it. A segment is in an odd number of these three sets exactly
 -- if one of its ends, not both, lies on the column below that height; and a chart has an even number of ends there.
---     end_below M c η p     p lies on the column c below the height η
+--     end_below M c η p    p lies on the column c below the height η
 --     at-column            of one segment, the number of these sets that it is in, and of its ends there: one parity
 --     column               of an even chart the three sets have together an even number of members
 -- Assumes nothing.

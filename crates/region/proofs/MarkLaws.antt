@@ -2,7 +2,7 @@
 -- what the number of all segments below says.
 --     peak rs p r         how high the segment of r lies in the strip right of p
 --     marked-is           a mark that is the counted one is 1 exactly where the number is odd
---     higher_below-peak    of what is counted below p, the higher has the greater peak
+--     higher_below-peak   of what is counted below p, the higher has the greater peak
 --     nearest_in          a nearest record is a left half whose segment is the nearest of the chart's; both ways
 --     nearest-one         there is one nearest record at the most
 --     nearest-mark        an odd number lies below p exactly if the nearest record has mark 1

@@ -1,12 +1,12 @@
 -- Lemma A: the segments of a sound chart that are counted below a point are exactly those at or below the nearest one
 -- in the strip right of the point's column.
 --     NearestIn ss p n     n is counted below p, and no other counted there is higher: document 01's nearest below
---     below_point-cut       counted below p is to go on from its column to the right, below p there
+--     below_point-cut      counted below p is to go on from its column to the right, below p there
 --     counted-higher       of what is counted below p, the higher has the greater key
 --     nearest-top          the nearest has the greatest key of all that are counted
 --     nearest-one          there is no other nearest
 --     nearest-found        none is counted below p, or there is a nearest
---     below_point-up_to      Lemma A
+--     below_point-up_to    Lemma A
 --     below-upper          so, by Lemma B, the number below p is odd exactly if the upper side of the nearest is inside
 -- Assumes nothing.
 use mathlib.Core.Path.{◌≡◌, refl, sym, ap, ◌∙◌}

@@ -1,6 +1,6 @@
 -- The two sides of a segment s that is not vertical, over an even chart that is clear of it: the count of its mark,
 -- which is taken at the left end of s, is read in any strip that s spans.
---     counted_for-up_to    counted for the mark are those at or below s in the strip right of its left end
+--     counted_for-up_to  counted for the mark are those at or below s in the strip right of its left end
 --     upper-strip        the upper side: the parity of what lies at or below s, in any strip
 --     lower-strip        the lower side: the parity of what lies strictly below s, where the chart has s at most once
 -- Assumes nothing.

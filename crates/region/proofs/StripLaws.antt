@@ -1,7 +1,7 @@
 -- Lemma B: how many segments of an even chart lie below a segment s, in the strips that s spans. The chart need not
 -- have s, it is only clear of it.
---     up_to-under      at or below s lie those strictly below it, and s itself as often as the chart has it
---     up_to-strips     Lemma B: the number at or below s has one parity in all these strips
+--     up_to-under     at or below s lie those strictly below it, and s itself as often as the chart has it
+--     up_to-strips    Lemma B: the number at or below s has one parity in all these strips
 -- Assumes nothing.
 use mathlib.Core.Path.{◌≡◌, refl, sym, ap, ◌∙◌}
 use mathlib.Core.Logic.{◌≢◌, ◌⊎◌, inl, inr}

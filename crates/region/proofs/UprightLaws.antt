@@ -1,5 +1,5 @@
 -- The two sides of a vertical segment over a chart, read beside it at any height η of it above its lower end.
---     counted_for-left    what is counted for s is what comes to its column from the left, below η
+--     counted_for-left   what is counted for s is what comes to its column from the left, below η
 --     upper-left         so its left side is the parity there, just left of it
 --     lower-right        and its right side is the parity just right of it
 -- Assumes nothing.

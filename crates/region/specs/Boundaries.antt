@@ -2,7 +2,7 @@
 --     held rs p             p lies on a segment, ends included
 --     counted p r           the segment of r, which is its left half, lies strictly below p at its column
 --     below rs p            how many are counted there
---     higher_below p t e     the segment of e is counted below p, and is higher there than t
+--     higher_below p t e    the segment of e is counted below p, and is higher there than t
 --     nearest rs p r        the segment of r is counted below p, and no other counted there is higher
 -- Assumes nothing.
 use Rattle.std.specs.Prelude.{Bool, not, ◌&&◌, List, ℕ}

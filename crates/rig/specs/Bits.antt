@@ -1,10 +1,10 @@
 -- An answer of the boundary is one number of 64 bits.
 --     packed v n c k     bits 0 to 31 the value, index or place v; bits 32 to 47 the refusal's number n, 0 where the
 --                        question was answered; bits 48 to 55 the chart named c; bits 56 to 63 a kind k
---     value_of, number_of, chart_of, kind_of    these four, read from an answer
---     length_of           bits 32 to 63, where the answer is a run: how many numbers it has
+--     value_of, number_of, chart_of, kind_of  these four, read from an answer
+--     length_of            bits 32 to 63, where the answer is a run: how many numbers it has
 --     cycles_of, faces_of  bits 0 to 15 and 16 to 31, where the answer is of faces: how many cycles and faces there are
---     of_refusal r        a refusal that names no chart: its number, and its index or place
+--     of_refusal r         a refusal that names no chart: its number, and its index or place
 -- Assumes nothing.
 use Rattle.std.specs.Prelude.{ℕ, ◌+◌, ◌*◌, ◌^◌, ◌/◌, ◌%◌}
 use Rattle.chart.specs.declared.Refusal.{Refusal}

@@ -1,5 +1,5 @@
 -- A gauge sample at the boundary, where a card is a kind and two floats.
---     by_kind k a b c     a for kind 0, a spring; b for kind 1, a bridge; c for any other
+--     by_kind k a b c    a for kind 0, a spring; b for kind 1, a bridge; c for any other
 --     KindGauges k x y n g     what the sample n gives by the card of kind k: a spring of rate x and pin y, a bridge of
 --                        gain x and zero y; a kind that is neither breaks the rules, 21
 --     SampleRead k x y n r p m    the answer r has the refusal's number and nothing else; with the pressure p and the

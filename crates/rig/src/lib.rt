@@ -139,8 +139,7 @@ fn pack_faces(a: FaceList) -> u64
 // chart or the arrays are refused.
 #[tactic(auto, using(crate::proofs::Sets::faced))]
 pub fn bz_faces(chart: &[i16], labels: &mut [u16], cycles: &mut [u16]) -> u64
-    ensures { FacesListed chart.now labels.old cycles.old
-        labels.new cycles.new result }
+    ensures { FacesListed chart.now labels.old cycles.old labels.new cycles.new result }
 {
     pack_faces(faces::faces(chart, labels, cycles))
 }

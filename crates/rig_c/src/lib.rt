@@ -55,8 +55,7 @@ pub extern "C" fn bz_area2(chart: &[i16], out: &mut i64) -> u64
 
 #[unsafe(no_mangle)]
 pub extern "C" fn bz_faces(chart: &[i16], labels: &mut [u16], cycles: &mut [u16]) -> u64
-    ensures { FacesListed chart.now labels.old cycles.old
-        labels.new cycles.new result }
+    ensures { FacesListed chart.now labels.old cycles.old labels.new cycles.new result }
 {
     rig::bz_faces(chart, labels, cycles)
 }

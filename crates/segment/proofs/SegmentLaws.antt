@@ -1,8 +1,8 @@
 -- Laws of the segment of a record, and of records as a chart's segments.
 --     segment-left, segment-right      the segment of a left half, and of a right one
 --     segment-forward                  its smaller end comes first, where the record's ends differ
---     segment-other_half                both halves have one segment
---     is_record-true, is_record-refl     `is_record` is equality
+--     segment-other_half               both halves have one segment
+--     is_record-true, is_record-refl   `is_record` is equality
 -- Assumes nothing.
 use mathlib.Core.Path.{◌≡◌, refl, sym, ap, ◌∙◌}
 use mathlib.Core.Bool.{Bool, true, false, not}

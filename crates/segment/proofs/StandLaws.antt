@@ -1,6 +1,6 @@
 -- A left half stands for its segment: `of_segment` (specs/Segments.antt) in each case, as a program finds it.
---     of_segment-left     a left half: whether its segment passes
---     of_segment-right    a right half: no
+--     of_segment-left    a left half: whether its segment passes
+--     of_segment-right   a right half: no
 --     standing           for `search`: both
 -- Assumes nothing.
 use mathlib.Core.Path.{◌≡◌, sym, ap, ◌∙◌}

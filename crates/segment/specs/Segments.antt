@@ -1,8 +1,8 @@
 -- The segment of a record (document 01: "Each segment has both" halves), and records as a chart's segments.
 --     segment r          the segment that r is a half of, its smaller end first
---     of_segment q r      r is the left half of a segment that passes q. A chart has one left half for each of its
+--     of_segment q r     r is the left half of a segment that passes q. A chart has one left half for each of its
 --                        segments, so counting these counts segments
---     is_record e r       r is the record e, its mark too
+--     is_record e r      r is the record e, its mark too
 --     Rise x s r         r is the rise of s at column x, and no more than two products of counts
 -- Assumes nothing.
 use Rattle.std.specs.Prelude.{◌≡◌, Bool, cond, ◌&&◌, ℕ, ◌*◌, ◌≤◌, eqb}

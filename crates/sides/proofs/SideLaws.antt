@@ -1,12 +1,12 @@
 -- What is kept and how it is marked (specs/Kept.antt), from what the functions inside answer.
---     joined_by-union, joined_by-intersection, joined_by-difference    `joined_by`, by the operation
---     upper_side-marked      the upper side of a segment lies in a chart exactly if its counted mark there is 1
+--     joined_by-union, joined_by-intersection, joined_by-difference  `joined_by`, by the operation
+--     upper_side-marked     the upper side of a segment lies in a chart exactly if its counted mark there is 1
 --     joining-upper         whether it lies in the result
 --     keeps-sides           whether the two sides differ in the result, from the upper sides and which charts have it
---     kept_first-is          the same of a record of the first chart
---     kept_second-had, kept_second-new    and of the second, by whether the first has its segment
---     side_mark-in, side_mark-out         the mark, by the upper side
---     side_marked-is                     and the record with it
+--     kept_first-is         the same of a record of the first chart
+--     kept_second-had, kept_second-new  and of the second, by whether the first has its segment
+--     side_mark-in, side_mark-out       the mark, by the upper side
+--     side_marked-is                    and the record with it
 -- Assumes nothing.
 use mathlib.Core.Path.{◌≡◌, refl, sym, ap, ap₂, ◌∙◌}
 use mathlib.Core.Bool.{Bool, true, false, not, cond, ◌&&◌, ◌||◌, beq}

@@ -1,9 +1,9 @@
 -- Which records of two charts a and b are kept, and how they stand in the result: devices that contracts cite. Document
 -- 01's words for them are combined's specs.
---     kept_first op a b r       the segment of r, a record of the first chart, is kept
---     kept_second op a b r      the same of a record of the second, whose segment the first has not
---     side_mark op a b t        1 exactly if the upper side of the segment t, or a vertical one's left, is in the result
---     side_marked op a b r      r with that mark
+--     kept_first op a b r      the segment of r, a record of the first chart, is kept
+--     kept_second op a b r     the same of a record of the second, whose segment the first has not
+--     side_mark op a b t       1 exactly if the upper side of the segment t, or a vertical one's left, is in the result
+--     side_marked op a b r     r with that mark
 -- Assumes nothing.
 use Rattle.std.specs.Prelude.{Bool, not, cond, ◌&&◌, List, ℕ, ℤ}
 use Rattle.plane.specs.declared.Segment.{Segment}

@@ -1,5 +1,5 @@
 -- What is made of two charts a and b (document 01: "under or, and, or and-not").
---     joined_by op x y       or, and, and-not: whether a point that lies in the first chart as x says and in the second
+--     joined_by op x y      or, and, and-not: whether a point that lies in the first chart as x says and in the second
 --                           as y says lies in the result
 --     joining op            the same of a list of two answers, as combined has it
 --     both a b              the two charts by their records

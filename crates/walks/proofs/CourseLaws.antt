@@ -3,7 +3,7 @@
 --     onto r e                  the course of r turns counter-clockwise onto that of e
 --     onto-once, onto-trans     not both ways; through a third
 --     onto-level                and through one with which the third is in line
---     turns_right-onto, turns_left-onto     records of one half turn as their courses do, records of two halves the other
+--     turns_right-onto, turns_left-onto   records of one half turn as their courses do, records of two halves the other
 --                               way
 -- Assumes nothing.
 use mathlib.Core.Path.{◌≡◌, refl, ap, subst}

@@ -1,5 +1,5 @@
 -- The records of a region in their places, and the half of each.
---     rank_in s r           the place of record r in the chart s
+--     rank_in s r          the place of record r in the chart s
 --     member-at, place_of  what stands at a place is a record of the chart, and each of those has a place
 --     rank-at              which is its rank
 --     ranked-region        so a region with these ranks is what the theory of walks speaks of

@@ -1,5 +1,5 @@
 -- On which side of a cycle its own inside lies, in a region: on one and the same hand all along its walk.
---     of_cycle s i         the records of the cycle of record i
+--     of_cycle s i        the records of the cycle of record i
 --     side-along          whoever walks the walk of an outer cycle has it on the left, and that of a hole does not
 --     side_same           so it is for the cycle's own records
 --     area-some           an outer cycle has positive area, and a hole negative

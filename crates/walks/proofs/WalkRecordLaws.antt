@@ -1,5 +1,5 @@
 -- The records of a walk of a region, taken from its start.
---     of_walk s w        the records of the walk that starts with record w
+--     of_walk s w       the records of the walk that starts with record w
 --     start-self        the start is walked itself
 --     walk-place        each stands at a place in the walk
 --     walk-known, walk-leaves     they are records of the chart, walked from their dominating ends

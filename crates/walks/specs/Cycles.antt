@@ -1,16 +1,16 @@
 -- The cycle of each record, and the numbers of cycles (document 01: "The start of the walk makes no difference",
 -- "Cycles are numbered by smallest record index"). A cycle has both halves of each of its segments.
 --     least i js          the least of i and of all of js
---     start_of s i         where the walk of record i is taken to start: its least record
---     has_record j c       record j is one of c
---     first_that p cs      the first of cs that passes p, the empty list where there is none
---     cycle_of s i         the cycle of record i, by the records that are walked: the one, of those that its walk is cut
+--     start_of s i        where the walk of record i is taken to start: its least record
+--     has_record j c      record j is one of c
+--     first_that p cs     the first of cs that passes p, the empty list where there is none
+--     cycle_of s i        the cycle of record i, by the records that are walked: the one, of those that its walk is cut
 --                         into, which has its segment
 --     halves s c          the records of the cycle c: those walked, and their other halves
---     first_of s i         the first record, by index, of the cycle of record i
---     is_first s i         record i is the first of its cycle
---     cycle_count s        the number of cycles: each has one first record
---     cycle_number s i     the number of the cycle of record i: how many have an earlier first record
+--     first_of s i        the first record, by index, of the cycle of record i
+--     is_first s i        record i is the first of its cycle
+--     cycle_count s       the number of cycles: each has one first record
+--     cycle_number s i    the number of the cycle of record i: how many have an earlier first record
 -- Assumes nothing.
 use Rattle.std.specs.Prelude.{Bool, cond, List, [], ◌∷◌, ◌++◌, map, ℕ, ltb, eqb, ℤ}
 use Rattle.counts.specs.Count.{count, any, places}

@@ -1,18 +1,18 @@
 -- Outer cycles, holes and faces (document 01: "A cycle of positive signed area is outer, of negative a hole. A hole's
 -- face is that of the outer cycle in its own walk; if the walk has none, take the walk's smallest point, the segment
 -- nearest strictly below it, and the face of the cycle that segment belongs to", "faces by their outer cycles' order").
---     area2_of s c            twice the signed area of the cycle c: document 01's twice the area, over its segments
---     is_outer s i            the cycle of record i is outer
---     first_outer s i         record i is the first of an outer cycle
---     face_count s            the number of faces: each has one outer cycle
---     face_number s i         of the outer cycle whose first record is i: how many outer cycles come before it
---     outer_in s w            the first record of the outer cycle in the walk that starts at w; the number of records
+--     area2_of s c           twice the signed area of the cycle c: document 01's twice the area, over its segments
+--     is_outer s i           the cycle of record i is outer
+--     first_outer s i        record i is the first of an outer cycle
+--     face_count s           the number of faces: each has one outer cycle
+--     face_number s i        of the outer cycle whose first record is i: how many outer cycles come before it
+--     outer_in s w           the first record of the outer cycle in the walk that starts at w; the number of records
 --                            where it has none
 --     smallest p qs          the smallest of p and of all of qs
---     smallest_point s w      the smallest point of the walk that starts at w
---     nearest_to s p          the record of the segment nearest strictly below p
---     face_from s k i         the face of the cycle of record i, found over at most k walks
---     face_of s i             the same over as many as there can be
+--     smallest_point s w     the smallest point of the walk that starts at w
+--     nearest_to s p         the record of the segment nearest strictly below p
+--     face_from s k i        the face of the cycle of record i, found over at most k walks
+--     face_of s i            the same over as many as there can be
 -- That fewer walks are always enough is `face-found` of proofs/FaceLaws.antt. Assumes nothing.
 use Rattle.std.specs.Prelude.{Bool, cond, ◌&&◌, List, [], ◌∷◌, map, ℕ, zero, suc, ltb, eqb, ℤ, pos}
 use Rattle.std.specs.Int.Signed.{lt_z}

@@ -4,12 +4,12 @@
 --     walk s i          the walk that starts with record i, until it comes round
 --     from s p j        record j departs from p
 --     Cut               what is left of a walk, its records in the order walked, and the cycles cut off so far
---     cut_at s p c       the walk comes to p: where it has departed from p, what it has walked since is a cycle
---     walk_on s c j      it comes to where record j departs, is cut there, and goes on by j
---     walk_all s c js    the same for each of js
+--     cut_at s p c      the walk comes to p: where it has departed from p, what it has walked since is a cycle
+--     walk_on s c j     it comes to where record j departs, is cut there, and goes on by j
+--     walk_all s c js   the same for each of js
 --     uncut             nothing walked yet
---     cycles_in s i js   what js, which start with record i and end where it departs, are cut into
---     cycles_of s i      the cycles of the walk from record i
+--     cycles_in s i js  what js, which start with record i and end where it departs, are cut into
+--     cycles_of s i     the cycles of the walk from record i
 -- Assumes nothing.
 use Rattle.std.specs.Prelude.{Bool, cond, List, [], ◌∷◌, ◌++◌, ℕ, zero, suc, ltb, eqb, ℤ, length, take, drop}
 use Rattle.counts.specs.Count.{first_index}

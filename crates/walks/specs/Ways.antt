@@ -1,9 +1,9 @@
 -- Which segment is walked next (document 01, "Faces, holes and area": "at its far end turn clockwise from the way back
 -- to the first segment met"). Records are named by their place in the chart s. Which way a segment is walked: around's
 -- specs/Departing.antt.
---     way_back s i       the other half of record i: from the far end, the way that was come
---     first_here s j     no record at the corner of record j comes before it
---     last_here s j      the last record at that corner
+--     way_back s i      the other half of record i: from the far end, the way that was come
+--     first_here s j    no record at the corner of record j comes before it
+--     last_here s j     the last record at that corner
 --     clockwise s j     turning clockwise from record j around its corner, the first record met. The record order goes
 --                       around a corner once, counter-clockwise, from just past straight up: right halves end straight
 --                       down, left halves straight up. So it is the record before; from the first, the last
