@@ -62,7 +62,8 @@ module _ {W : ℕ} (M : ℕ) (scale : Scale W M) {ss : List Segment} (sound : So
 
   distinct : (x k : ℕ) → count (λ t. covers x t && eqb (key M t x) k) ss ≤ 1
   distinct x k =
-      at_most_one (λ t. covers x t && eqb (key M t x) k) (λ t s. is_segment s t) is_segment-refl ss (λ t m. single t) one
+      at_most_one (λ t. covers x t && eqb (key M t x) k) (λ t s. is_segment s t) is_segment-refl ss
+      (λ t m. single t) one
     where
       one : (t s : Segment) → t ∈ ss → s ∈ ss → covers x t && eqb (key M t x) k ≡ true
           → covers x s && eqb (key M s x) k ≡ true → t ≡ s

@@ -72,5 +72,6 @@ module _ {s : List ℤ} (region : Region s) where
 
   pub region-once : (r : Record) → r ∈ records s → count (is_record r) (records s) ≡ 1
   region-once =
-      once (λ r e. precedes r e ≡ true) precedes-irrefl (λ e r. is_record r e) (λ e r. is_record-true r e) is_record-refl
+      once (λ r e. precedes r e ≡ true) precedes-irrefl (λ e r. is_record r e) (λ e r. is_record-true r e)
+      is_record-refl
       (λ r. r) (records s) region-ascending (λ r m. m)

@@ -73,5 +73,6 @@ no_other_half-off rs r = (
   (λ m. ap not ((any-member (is_record (other_half r)) rs).1 (other_half r, m, is_record-refl (other_half r)))),
 )
 
-pub wrong_mark-off : (rs : List Record) (r : Record) → (wrong_mark rs r ≡ false) ↔ (r.mark ≡ counted_mark rs (segment r))
+pub wrong_mark-off : (rs : List Record) (r : Record)
+    → (wrong_mark rs r ≡ false) ↔ (r.mark ≡ counted_mark rs (segment r))
 wrong_mark-off rs r = ((λ e. eqb-true _ _ (not-false _ e)), (λ e. ap not (eq-eqb r.mark _ e)))

@@ -35,7 +35,8 @@ either-cases : (c : List Record) (cs : List (List Record)) (r : Record) → r �
 unfolding either
 either-cases c cs r m = go (Memᴰ.append_cases c m)
   where
-    go : (r ∈ c) ⊎ (r ∈ keep (missing c) (either cs)) → (r ∈ c) ⊎ ((r ∈ either cs) × (has_segment c (segment r) ≡ false))
+    go : (r ∈ c) ⊎ (r ∈ keep (missing c) (either cs))
+        → (r ∈ c) ⊎ ((r ∈ either cs) × (has_segment c (segment r) ≡ false))
     go (inl k) = inl k
     go (inr k) = let w = keep-mem (missing c) (either cs) r k in inr (w.0, not-true _ w.1)
 

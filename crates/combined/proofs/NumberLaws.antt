@@ -49,7 +49,8 @@ record_at-later a b c d e s i = λ t. record {
     at : (m n : ℕ) → m ≡ suc (suc (suc (suc (suc n)))) → count_at (a ∷ b ∷ c ∷ d ∷ e ∷ s) m ≡ count_at s n
     at m n g = ap (count_at (a ∷ b ∷ c ∷ d ∷ e ∷ s)) g
 
-pub record_at-numbers : (d : Record) (rs : List Record) (i : ℕ) → i < length rs → record_at (numbers rs) i ≡ get_or rs i d
+pub record_at-numbers : (d : Record) (rs : List Record) (i : ℕ) → i < length rs
+    → record_at (numbers rs) i ≡ get_or rs i d
 unfolding numbers record_at
 record_at-numbers d [] i l = absurd (omega arith)
 record_at-numbers d (r ∷ rs) zero l = λ i. record {
@@ -57,7 +58,8 @@ record_at-numbers d (r ∷ rs) zero l = λ i. record {
   other = record { x = up-down r.other.x i; y = up-down r.other.y i };
   mark = up-down r.mark i;
 }
-record_at-numbers d (r ∷ rs) (suc i) l = record_at-later _ _ _ _ _ (numbers rs) i ∙ record_at-numbers d rs i (omega arith)
+record_at-numbers d (r ∷ rs) (suc i) l = record_at-later _ _ _ _ _ (numbers rs) i
+    ∙ record_at-numbers d rs i (omega arith)
 
 pub numbers-whole : (rs : List Record) → length (numbers rs) % width ≡ 0
 numbers-whole rs = omega (arith, numbers-length rs)

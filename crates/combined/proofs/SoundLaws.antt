@@ -136,7 +136,8 @@ module _ {ss : List (List ℤ)} (together : Together ss) (f : List Bool → Bool
       let h = left-half (either cs) (either-proper cs laid) (either-halves cs laid) r k in
       rw h.3 at (mem-segments (either cs) h.0 h.1 h.2)
 
-  pub sides-marked : map (λ r. with_mark (cond (f (upper_sides cs (segment r))) marked unmarked) r) (in_order (kept f cs))
+  pub sides-marked : map (λ r. with_mark (cond (f (upper_sides cs (segment r))) marked unmarked) r)
+      (in_order (kept f cs))
       ≡ result f cs
   sides-marked =
       map-ext _ _ (in_order (kept f cs))

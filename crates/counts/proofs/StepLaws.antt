@@ -1,5 +1,5 @@
--- The steps of a loop that looks for the first, counts or sums, in the form that a function's tactic line finds: what a law
--- concludes shows all that it speaks of.
+-- The steps of a loop that looks for the first, counts or sums, in the form that a function's tactic line finds: what a
+-- law concludes shows all that it speaks of.
 --     first_hit, first_more      looking for the first
 --     sum_none                   summing and counting, with `sum_more` of LoopLaws.antt
 --     looking, summing           for a function's tactic: what closes such a loop

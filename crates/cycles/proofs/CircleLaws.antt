@@ -131,7 +131,8 @@ module _ {s : List ℤ} (region : Region s) where
           omega (arith, low, least-low s c first)
 
       module _ (to : List ℕ) (room : record_count s ≤ length to) where
-        pub written-starts : get_or (starts_of s w (cycles_of s w) to) i 0 ≡ cond (eqb (start_of s i) w) w (get_or to i 0)
+        pub written-starts : get_or (starts_of s w (cycles_of s w) to) i 0
+            ≡ cond (eqb (start_of s i) w) w (get_or to i 0)
         written-starts =
             starts_of-at s i w (cycles_of s w) to (λ t. omega arith) ∙ ap (λ b. cond b w (get_or to i 0)) halved_is
 

@@ -90,7 +90,8 @@ module _ {s : List ℤ} {w : ℕ} {starts firsts : List ℕ} where
           by_side t l (more h) = absurd (omega arith)
 
       module _ (l : k < record_count s) {j' : ℕ} (at : PlaceOf s (next s j) j') where
-        pub cutting-round : j' ≡ w → Cutting s w starts firsts starts'' firsts'' (set rest d j) (d + 1) j' (record_count s)
+        pub cutting-round : j' ≡ w
+            → Cutting s w starts firsts starts'' firsts'' (set rest d j) (d + 1) j' (record_count s)
         cutting-round e = cutting-on l (omega arith) at (onward-round s w j l at.is e)
 
         pub cutting-more : (j' ≡ w → ⊥) → Cutting s w starts firsts starts'' firsts'' (set rest d j) (d + 1) j' (k + 1)

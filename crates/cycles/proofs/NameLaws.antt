@@ -122,7 +122,8 @@ module _ (s : List ℤ) where
         ∙ name_all-at (least_half s c) c to h
         ∙ go (any (halved s i) c) g
       where
-        go : (b : Bool) → (b ≡ true → least_half s c ≡ f) → cond b (least_half s c) (get_or to i 0) ≡ cond b f (get_or to i 0)
+        go : (b : Bool) → (b ≡ true → least_half s c ≡ f)
+            → cond b (least_half s c) (get_or to i 0) ≡ cond b f (get_or to i 0)
         go true g = g refl
         go false g = refl
 

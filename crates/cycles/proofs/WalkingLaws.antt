@@ -38,7 +38,8 @@ pub record Walking (s : List ℤ) (starts firsts starts' firsts' : List ℕ) (i 
   pub begun : (j : ℕ) → j < record_count s → start_of s j < i → get_or starts' j 0 ≡ start_of s j
   pub named : (j : ℕ) → j < record_count s → start_of s j < i → get_or firsts' j 0 ≡ first_of s j
   pub none : (j : ℕ) → j < record_count s → i ≤ start_of s j → get_or starts' j 0 ≡ record_count s
-  pub behind : (j : ℕ) → record_count s ≤ j → (get_or starts' j 0 ≡ get_or starts j 0) × (get_or firsts' j 0 ≡ get_or firsts j 0)
+  pub behind : (j : ℕ) → record_count s ≤ j
+      → (get_or starts' j 0 ≡ get_or starts j 0) × (get_or firsts' j 0 ≡ get_or firsts j 0)
 
 module _ {s : List ℤ} {starts firsts : List ℕ} where
   pub walking-none : Unset (record_count s) starts → record_count s ≤ length firsts
@@ -95,7 +96,8 @@ module _ {s : List ℤ} {starts firsts : List ℕ} where
             (λ h. absurd (omega (arith, held.begun i l h)))
             (λ h. omega arith) (lt-or-le (start_of s i) i)
 
-        start-at : (j : ℕ) → j < record_count s → get_or starts'' j 0 ≡ cond (eqb (start_of s j) i) i (get_or starts' j 0)
+        start-at : (j : ℕ) → j < record_count s
+            → get_or starts'' j 0 ≡ cond (eqb (start_of s j) i) i (get_or starts' j 0)
         start-at j k =
             ap (λ to. get_or to j 0) begun
             ∙ written-starts region i l leaves starts-here j k starts' (omega (arith, held.room, held.size))

@@ -93,4 +93,5 @@ pub record CutWalks (s : List ℤ) (starts firsts starts' firsts' : List ℕ) : 
   pub size : (length starts' ≡ length starts) × (length firsts' ≡ length firsts)
   pub begun : (i : ℕ) → i < record_count s → get_or starts' i 0 ≡ start_of s i
   pub named : (i : ℕ) → i < record_count s → get_or firsts' i 0 ≡ first_of s i
-  pub behind : (i : ℕ) → record_count s ≤ i → (get_or starts' i 0 ≡ get_or starts i 0) × (get_or firsts' i 0 ≡ get_or firsts i 0)
+  pub behind : (i : ℕ) → record_count s ≤ i
+      → (get_or starts' i 0 ≡ get_or starts i 0) × (get_or firsts' i 0 ≡ get_or firsts i 0)

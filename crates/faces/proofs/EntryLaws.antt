@@ -80,7 +80,8 @@ module _ (s : List ℤ) (lent : List ℕ) where
         within = omega arith;
         room = so_far.room;
         counted = counted-yes (is_first s) (λ i. i) so_far.counted (sym (is-first known l e)) refl refl;
-        long = length-set (set out (2 * m) (kind_of s i)) (2 * m + 1) (face_of s i) ∙ length-set out (2 * m) (kind_of s i)
+        long = length-set (set out (2 * m) (kind_of s i)) (2 * m + 1) (face_of s i)
+            ∙ length-set out (2 * m) (kind_of s i)
             ∙ so_far.long;
         is = ap (λ t. with_cycle s i t m) so_far.is
             ∙ front-two (entries s i) lent (2 * m) (kind_of s i) (face_of s i) size
@@ -106,6 +107,7 @@ module _ (s : List ℤ) (lent : List ℕ) where
         long = so_far.long;
         is = so_far.is
             ∙ ap (λ t. t ++ drop (2 * m) lent) (sym (append-nil (entries s i)))
-            ∙ ap (λ b. entries s i ++ entries_of s (cond b (i ∷ []) []) ++ drop (2 * m) lent) (sym (not_first known l e))
+            ∙ ap (λ b. entries s i ++ entries_of s (cond b (i ∷ []) []) ++ drop (2 * m) lent)
+            (sym (not_first known l e))
             ∙ ap (λ t. t ++ drop (2 * m) lent) (sym (entries_next s i));
       })

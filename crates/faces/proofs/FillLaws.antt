@@ -51,7 +51,8 @@ module _ {s : List ℤ} {lent faces : List ℕ} {w : ℕ} (so_far : Filling s le
     };
   })
     where
-      go : (v : ℕ) → v < w + 1 → v < record_count s → start_of s v ≡ v → Side v w → get_or (set faces w f) v 0 ≡ face_of s v
+      go : (v : ℕ) → v < w + 1 → v < record_count s → start_of s v ≡ v → Side v w
+          → get_or (set faces w f) v 0 ≡ face_of s v
       go v h k at (less g) = get_or-set_other faces w v f 0 (omega arith) ∙ so_far.done.face v g k at
       go v h k at (equal g) = rw g (get_or-set_same faces w f 0 (omega (arith, so_far.done.room)) ∙ e)
       go v h k at (more g) = absurd (omega arith)

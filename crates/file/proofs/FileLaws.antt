@@ -45,7 +45,8 @@ unfolding fields
 fields-length s k zero at h = refl
 fields-length s k (suc m) at h = go (field_at s k at) (λ next. fields-length s (suc k) m next) h
   where
-    go : (f : Field) → ((next : ℕ) → is_taken (fields s (suc k) m next) ≡ true → length_of (fields s (suc k) m next) ≡ m)
+    go : (f : Field) → ((next : ℕ) → is_taken (fields s (suc k) m next) ≡ true
+        → length_of (fields s (suc k) m next) ≡ m)
         → is_taken (after f (λ next. fields s (suc k) m next)) ≡ true
         → length_of (after f (λ next. fields s (suc k) m next)) ≡ suc m
     go (field.Value z next) ih e = longer z (fields s (suc k) m next) m (ih next) e

@@ -65,14 +65,16 @@ near_high x h w = (castable x h w).1
 pub read_is : (c : Card) (n r : ℤ) (p : Float) (a o : Bool) → SFits w16 n → SFits w64 r → sound c ≡ true
     → a ≡ at_pin c (to_z w16 (of_z w16 n)) → a ≡ false → o ≡ on_grid (to_z w64 (of_z w64 r)) → o ≡ true
     → r ≡ row (units p) → Exactly p (pressure c (to_z w16 (of_z w16 n)))
-    → Gauges c n (record { refusal = 0; reading = record { pressure = p; row = to_z w16 (of_z w16 (to_z w64 (of_z w64 r))) } })
+    → Gauges c n
+    (record { refusal = 0; reading = record { pressure = p; row = to_z w16 (of_z w16 (to_z w64 (of_z w64 r))) } })
 read_is c n r p a o f g s pin off grid on placed exact =
     let e = rw (to_z-of_z w16 n f) at exact in
     let is_off = rw (to_z-of_z w16 n f) at pin in
     let is_on : on_grid r ≡ true = rw (to_z-of_z w64 r g) at (sym grid ∙ on) in
     let h : SFits w16 r = record { sfits = on_grid-fits r is_on } in
     rw (to_z-of_z w64 r g, to_z-of_z w16 r h)
-    (return_read c n s (sym is_off ∙ off) (grid-of-pressure c n r e placed refl is_on) e (row-of-pressure c n r e placed))
+    (return_read c n s (sym is_off ∙ off) (grid-of-pressure c n r e placed refl is_on) e
+    (row-of-pressure c n r e placed))
 
 -- ---- a lemma for each field of a record that a function promises: `grind` takes the goal apart
 

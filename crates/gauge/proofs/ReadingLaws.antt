@@ -89,7 +89,8 @@ module _ (c : Card) (n : ℤ) where
   unfolding refusal
   return-22 s a = refused 22 refl (rw (s, a))
 
-  pub return-23 : sound c ≡ true → at_pin c n ≡ false → on_grid (row (pressure c n)) ≡ false → Gauges c n (refused_by 23)
+  pub return-23 : sound c ≡ true → at_pin c n ≡ false → on_grid (row (pressure c n)) ≡ false
+      → Gauges c n (refused_by 23)
   unfolding refusal
   return-23 s a g = refused 23 refl (rw (s, a, g))
 

@@ -33,7 +33,8 @@ abbrev pub signed_way : ℤ → ℤ → ℤ → ℤ → Direction
 signed_way x y u v = record { across = u -ℤ x; up = v -ℤ y }
 
 module _ (x y u v : ℤ) (p : GridPoint x y) (q : GridPoint u v) where
-  pub before-signed : (before (point_of x y) (point_of u v) ≡ true) ↔ ((lt_z x u ≡ true) ⊎ ((x ≡ u) × (lt_z y v ≡ true)))
+  pub before-signed : (before (point_of x y) (point_of u v) ≡ true)
+      ↔ ((lt_z x u ≡ true) ⊎ ((x ≡ u) × (lt_z y v ≡ true)))
   before-signed = (λ e. to (before-true _ _ e), λ h. before-intro _ _ (from h))
     where
       to : Before (point_of x y) (point_of u v) → (lt_z x u ≡ true) ⊎ ((x ≡ u) × (lt_z y v ≡ true))

@@ -50,12 +50,14 @@ module _ (op : Op) (a b : List ℤ) (room : ℕ) where
     unfolding joined_in
     joined_in-above e = rw (apart, e) refl
 
-    joined_in-short : ltb limit (length (result_of op a b)) ≡ false → ltb room (width * length (result_of op a b)) ≡ true
+    joined_in-short : ltb limit (length (result_of op a b)) ≡ false
+        → ltb room (width * length (result_of op a b)) ≡ true
         → joined_in op a b room ≡ none_named 13 0
     unfolding joined_in
     joined_in-short e f = rw (apart, e, f) refl
 
-    joined_in-result : ltb limit (length (result_of op a b)) ≡ false → ltb room (width * length (result_of op a b)) ≡ false
+    joined_in-result : ltb limit (length (result_of op a b)) ≡ false
+        → ltb room (width * length (result_of op a b)) ≡ false
         → joined_in op a b room ≡ joined (result_of op a b)
     unfolding joined_in
     joined_in-result e f = rw (apart, e, f) refl

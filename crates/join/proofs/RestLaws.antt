@@ -98,7 +98,8 @@ module _ (op : Op) (a b : List ℤ) where
               rw at.3 (first-least first second i j at.0 head.0 head.1 at.1 at.2)
 
       pub rest-first : rest_of op a b i j
-          ≡ cond (kept_first op a b (record_at a i)) (record_at a i ∷ rest_of op a b (i + 1) j) (rest_of op a b (i + 1) j)
+          ≡ cond (kept_first op a b (record_at a i))
+          (record_at a i ∷ rest_of op a b (i + 1) j) (rest_of op a b (i + 1) j)
       rest-first =
           ap (λ l. in_order (l ++ of_second j)) (left-next (kept_first op a b) a i (head_first a b i j e).0)
           ∙ go (kept_first op a b (record_at a i))
@@ -123,7 +124,8 @@ module _ (op : Op) (a b : List ℤ) where
           rw at.3 (own-later second j at.0 (omega arith) at.2)
 
       pub rest-second : rest_of op a b i j
-          ≡ cond (kept_second op a b (record_at b j)) (record_at b j ∷ rest_of op a b i (j + 1)) (rest_of op a b i (j + 1))
+          ≡ cond (kept_second op a b (record_at b j))
+          (record_at b j ∷ rest_of op a b i (j + 1)) (rest_of op a b i (j + 1))
       rest-second =
           ap (λ l. in_order (of_first i ++ l)) (left-next (kept_second op a b) b j (head-second a b i j e).0)
           ∙ go (kept_second op a b (record_at b j))

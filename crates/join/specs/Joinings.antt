@@ -3,7 +3,8 @@
 --     result_of op a b       the result's records
 --     touches_in b r         the segment of r touches a segment of b
 --     first_touching a b     the first record of a of which this holds; the number of records where there is none
---     Outcome                the records of the result; or a refusal with the chart that it names, 0 where it names none
+--     Outcome                the records of the result; or a refusal with the chart that it names, 0 where it names
+--                            none
 --     none_named k i         refusal k at record i, which names no chart
 --     unless_refused c v o   o, unless v refuses the chart c
 --     joined_in op a b room  of two accepted charts, for a lent array of `room` numbers:

@@ -47,7 +47,8 @@ module _ (s : List ℤ) (n : ℕ) (p : Point) where
     member : (i : ℕ) → i < n → record_at s i ∈ first_records s n
     member i l = mem-listed (record_at s) 0 n i zero-le (omega arith)
 
-    by-peak : (b i : ℕ) → b < n → i < n → counted_at b ≡ true → is_higher b i ≡ counted_at i && ltb (peak_at b) (peak_at i)
+    by-peak : (b i : ℕ) → b < n → i < n → counted_at b ≡ true
+        → is_higher b i ≡ counted_at i && ltb (peak_at b) (peak_at i)
     by-peak b i k l = higher_below-peak sound p (record_at s b) (record_at s i) (member b k) (member i l)
 
     -- ---- one record more

@@ -93,4 +93,5 @@ first-append (a ∷ b ∷ c ∷ bs) more at l = refl
 
 -- three bytes settle a number, whatever follows
 pub number_in-append : (bs more : List ℕ) (at : ℕ) → 3 ≤ length bs → number_in (bs ++ more) at ≡ number_in bs at
-number_in-append bs more at l = rw (number_in-groups (bs ++ more) at, number_in-groups bs at) (first-append bs more at l)
+number_in-append bs more at l =
+    rw (number_in-groups (bs ++ more) at, number_in-groups bs at) (first-append bs more at l)

@@ -44,7 +44,8 @@ module _ (a b : List ℤ) where
   unfolding from_second
   from_second-alone l h = rw (le-leb width (length b) l, lt-leb width (length a) h)
 
-  pub from_second-both : width ≤ length b → width ≤ length a → from_second a b ≡ precedes (record_at b 0) (record_at a 0)
+  pub from_second-both : width ≤ length b → width ≤ length a
+      → from_second a b ≡ precedes (record_at b 0) (record_at a 0)
   unfolding from_second
   from_second-both l h = rw (le-leb width (length b) l, le-leb width (length a) h)
 

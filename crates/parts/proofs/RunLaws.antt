@@ -110,7 +110,8 @@ module _ (s : List ℤ) where
         → at_corner p (record_at s i) ≡ true
     run_only i lo hi = go (lt-or-le (first_there s p) (record_count s))
       where
-        go : (first_there s p < record_count s) ⊎ (record_count s ≤ first_there s p) → at_corner p (record_at s i) ≡ true
+        go : (first_there s p < record_count s) ⊎ (record_count s ≤ first_there s p)
+            → at_corner p (record_at s i) ≡ true
         go (inl l) =
             let e = run_of-some s p refl refl l in
             in-run-there i (omega (arith, rw e at lo)) (omega (arith, rw e at hi))

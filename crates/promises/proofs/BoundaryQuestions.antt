@@ -112,7 +112,8 @@ area-left s lent k e = go (area_of s) e (rw e (area-ends s))
     go (Twice z) n h = inl n
     go (Refused r) n h = ⊎_elim inl (λ t. inr (t, refl)) h
 
-joins-end : (op : Op) (a b lent out : List ℤ) (n : ℕ) → Combines op a b lent out n → Ends (List ℤ) (number_of n) lent out
+joins-end : (op : Op) (a b lent out : List ℤ) (n : ℕ) → Combines op a b lent out n
+    → Ends (List ℤ) (number_of n) lent out
 joins-end op a b lent out n h =
     let number = ap number_of h.says ∙ (join-answer op a b lent).number in
     rw number (join-end op a b lent out _ (record { says = refl; leaves = h.leaves }))

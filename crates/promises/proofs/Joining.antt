@@ -93,7 +93,8 @@ module _ (op : Op) (a b lent out : List ℤ) (j : Joined) (joins : Joins op a b 
   pub join-ends : (join_refusal j ≡ no_refusal) ⊎ (Told a b (chart_named j) (join_refusal j) × (out ≡ lent))
   join-ends = go j refl
     where
-      go : (k : Joined) → j ≡ k → (join_refusal k ≡ no_refusal) ⊎ (Told a b (chart_named k) (join_refusal k) × (out ≡ lent))
+      go : (k : Joined) → j ≡ k
+          → (join_refusal k ≡ no_refusal) ⊎ (Told a b (chart_named k) (join_refusal k) × (out ≡ lent))
       go (Records n) e = inl refl
       go (Refused c r) e = inr (join-refused c r e)
 

@@ -81,13 +81,15 @@ pub record Returns (n : ℕ) (ps : List (ParamKind n)) (S : Type 1 → Type 2) (
   pub meets : (M : Type 1) → S M
   pub asks : Open n ps Pre
 
-pub record Question (n : ℕ) (ps : List (ParamKind n)) (r : ResultKind n) (S : Type 1 → Type 2) (A : Type 0) (Pre : In n ps)
+pub record Question (n : ℕ) (ps : List (ParamKind n)) (r : ResultKind n) (S : Type 1 → Type 2) (A : Type 0)
+    (Pre : In n ps)
     (Post : (κs : Lfts n) → Dens κs ps → A → AtExit (ended_of n ps r) κs → Type 0) (number : A → ℕ) : Type 2 where
   pub returns : Returns n ps S Pre
   pub ends : (κs : Lfts n) (a : Dens κs ps) (v : A) (s : AtExit (ended_of n ps r) κs) → Post κs a v s
       → Numbered (number v)
 
-pub record Lending (n : ℕ) (ps : List (ParamKind n)) (r : ResultKind n) (S : Type 1 → Type 2) (A B : Type 0) (Pre : In n ps)
+pub record Lending (n : ℕ) (ps : List (ParamKind n)) (r : ResultKind n) (S : Type 1 → Type 2) (A B : Type 0)
+    (Pre : In n ps)
     (Post : (κs : Lfts n) → Dens κs ps → A → AtExit (ended_of n ps r) κs → Type 0) (number : A → ℕ)
     (before : (κs : Lfts n) → Dens κs ps → B) (after : (κs : Lfts n) → AtExit (ended_of n ps r) κs → B) : Type 2 where
   pub returns : Returns n ps S Pre

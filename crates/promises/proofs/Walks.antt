@@ -57,7 +57,8 @@ module _ (s : List ℤ) (v : verdict s ≡ Accepted) where
     next-onto region,
   )
 
-  pub turns-clockwise : (i j : ℕ) → i < record_count s → j < record_count s → (record_at s j).dom ≡ (record_at s i).other
+  pub turns-clockwise : (i j : ℕ) → i < record_count s → j < record_count s
+      → (record_at s j).dom ≡ (record_at s i).other
       → (j ≡ next s i) ⊎ (sooner (other_half (record_at s i)) (record_at s (next s i)) (record_at s j) ≡ true)
   turns-clockwise i j l h d =
       let back = back_is region i l in

@@ -82,7 +82,8 @@ module _ (s : List ℤ) (labels cycles : List ℕ) where
   abbrev answer : FaceList
   answer = faces_of s (length labels) (length cycles)
 
-  told : Lists s labels cycles (lists.contents answer (labels_of s) labels) (lists.contents answer (cycle_list s) cycles)
+  told : Lists s labels cycles (lists.contents answer (labels_of s) labels)
+      (lists.contents answer (cycle_list s) cycles)
       answer
   told = record { says = refl; labelled = refl; listed = refl }
 
@@ -113,9 +114,11 @@ module _ (op : Op) (a b lent : List ℤ) where
       small = join-small op a b lent _ joins
 
       go : (o : Outcome) → outcome op a b (length lent) ≡ o
-          → let j = joining.answer_of o in Decoded (join_answer j) (join_value j) (join_refusal j).number (chart_named j) 0
+          → let j = joining.answer_of o in
+            Decoded (join_answer j) (join_value j) (join_refusal j).number (chart_named j) 0
       go (joined rs) e =
-          packed-decoded _ 0 0 0 (rw (ap (λ o. join_value (joining.answer_of o)) e) at small) (omega arith) (omega arith)
+          packed-decoded _ 0 0 0 (rw (ap (λ o. join_value (joining.answer_of o)) e) at small) (omega arith)
+          (omega arith)
       go (refused c r) e =
           let fits = told-small (outcome-told op a b (length lent) c r e) in
           packed-decoded r.index r.number c 0

@@ -1,14 +1,14 @@
 -- What each question about charts and files answers at the boundary, from what the library answers, and what it leaves
 -- in what is lent.
 --     check_answer v     refusal and index; 0 where the chart is accepted
---     place_kind a, point_answer a  kind 0 Outside, 1 Inside, 2 Edge; or refusal and index
+--     place_kind a, point_answer a    kind 0 Outside, 1 Inside, 2 Edge; or refusal and index
 --     corner_answer a    where the run starts, in numbers from the array's beginning, in bits 0 to 31, and how many
 --                        numbers it has in bits 32 to 63
 --     head_kind h, head_answer h    kind 0 neither, 1 the first array's head, 2 the second's
 --     area_answer a      refusal and index, or 0
 --     area_left a lent   twice the area; what was lent, where the chart is refused
---     faces_value a, faces_answer a  how many cycles in bits 0 to 15 and how many faces in bits 16 to 31; or refusal and
---                        index
+--     faces_value a, faces_answer a   how many cycles in bits 0 to 15 and how many faces in bits 16 to 31; or refusal
+--                        and index
 --     FacesListed s labels cycles labels' cycles' n    n is the answer of the faces of s, and the arrays that were
 --                        labels and cycles are then labels' and cycles'
 --     read_value a, read_answer a   how many records were read; or refusal and place

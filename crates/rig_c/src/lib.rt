@@ -1,6 +1,6 @@
 // What C and Rust link: each function of `rig` under its own name (include/berzulka.h, rust/src/raw.rs), with the same
-// parameters and the same clauses, word for word. A slice is passed as a pointer and a length, in elements; what is lent
-// as one value is a pointer.
+// parameters and the same clauses, word for word. A slice is passed as a pointer and a length, in elements; what is
+// lent as one value is a pointer.
 #![tactic(auto)]
 
 ghost use Rattle.std.specs.Prelude.{◌≡◌};

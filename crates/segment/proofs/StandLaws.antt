@@ -11,7 +11,8 @@ use Rattle.record.specs.Order.{left}
 use Rattle.segment.specs.Segments.{segment, of_segment}
 
 module _ (q : Segment → Bool) (e : Record) where
-  pub of_segment-left : {h b : Bool} {t : Segment} → h ≡ left e → h ≡ true → t ≡ segment e → b ≡ q t → b ≡ of_segment q e
+  pub of_segment-left : {h b : Bool} {t : Segment} → h ≡ left e → h ≡ true → t ≡ segment e → b ≡ q t
+      → b ≡ of_segment q e
   of_segment-left l y s d = d ∙ ap q s ∙ ap (λ h. h && q (segment e)) (sym y ∙ l)
 
   pub of_segment-right : {h : Bool} → h ≡ left e → h ≡ false → h ≡ of_segment q e

@@ -41,7 +41,8 @@ module _ {op : Op} (x y : Bool) where
 
 pub ruleset joinings = (joined_by-union, joined_by-intersection, joined_by-difference)
 
-pub upper_side-marked : (rs : List Record) (t : Segment) {m : ℕ} → m ≡ counted_mark rs t → eqb m marked ≡ upper_side rs t
+pub upper_side-marked : (rs : List Record) (t : Segment) {m : ℕ} → m ≡ counted_mark rs t
+    → eqb m marked ≡ upper_side rs t
 unfolding up
 upper_side-marked rs t e = ap (λ m. eqb m marked) e ∙ go (odd (mark_count rs t))
   where

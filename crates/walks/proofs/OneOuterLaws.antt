@@ -57,7 +57,8 @@ module _ {s : List ℤ} (region : Region s) where
       first-same region i j l h
       (sym (halves-same region j v.0 h v.1) ∙ ap (cycle_of s) (sym one) ∙ halves-same region i w.0 l w.1)
 
-  pub one-outer : (i j : ℕ) → i < record_count s → j < record_count s → start_of s j ≡ start_of s i → is_outer s i ≡ true
+  pub one-outer : (i j : ℕ) → i < record_count s → j < record_count s → start_of s j ≡ start_of s i
+      → is_outer s i ≡ true
       → is_outer s j ≡ true → cycle_of s j ≡ cycle_of s i
   one-outer i j l h e o p = go (eqb (first_of s j) (first_of s i)) refl
     where
@@ -71,7 +72,8 @@ module _ {s : List ℤ} (region : Region s) where
   pub outer-found : (i : ℕ) → i < record_count s → is_outer s i ≡ true → outer_in s (start_of s i) ≡ first_of s i
   unfolding outer_in
   outer-found i l o =
-      sym (first_from-unique (outer_of s (start_of s i)) (λ j. j) 0 (record_count s) zero-le f zero-le (omega (arith, less))
+      sym (first_from-unique (outer_of s (start_of s i)) (λ j. j) 0 (record_count s) zero-le f zero-le 
+      (omega (arith, less))
       (λ k. and_intro
       (and_intro (eq-eqb (first_of s f) f (first-first region i l))
       (outer_same region i f l less (halves-same region i f l (first-half region i l)) ∙ o))

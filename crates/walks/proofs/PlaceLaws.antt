@@ -105,7 +105,8 @@ module _ {s : List ℤ} (region : Region s) where
     unfolding way_back
     back-less = go half
       where
-        go : (k : ℕ) × (k < record_count s) × (other_half (record_at s i) ≡ record_at s k) → way_back s i < record_count s
+        go : (k : ℕ) × (k < record_count s) × (other_half (record_at s i) ≡ record_at s k)
+            → way_back s i < record_count s
         go (k, h, e) =
             let least =
             first_from-least (is_record (other_half (record_at s i))) (record_at s) 0 (record_count s) zero-le k zero-le

@@ -43,7 +43,8 @@ module _ {s : List ℤ} (region : Region s) where
   -- ---- along a walk
 
   module _ {C : List Record} (part : Part (records s) C) where
-    along : (i : ℕ) → i < record_count s → (j : ℕ) → j ∈ walk s i → left_of C (record_at s j) ≡ left_of C (record_at s i)
+    along : (i : ℕ) → i < record_count s → (j : ℕ) → j ∈ walk s i
+        → left_of C (record_at s j) ≡ left_of C (record_at s i)
     unfolding goes
     along i l j m = let w = walk_step region i l j m in ap (λ k. left_of C (record_at s k)) w.2 ∙ go w.0
       where
@@ -102,7 +103,8 @@ module _ {s : List ℤ} (region : Region s) where
     pub outer-mark : is_outer s i ≡ eqb (record_at s (first_of s i)).mark marked
     outer-mark =
         sym (first-mark (ranked-region region) (cycle-part region i l) (is_outer s i) side_same
-        (record_at s (first_of s i)) (mem-map (record_at s) (halves s (cycle_of s i)) (first_of s i) (first-half region i l))
+        (record_at s (first_of s i)) (mem-map (record_at s) (halves s (cycle_of s i)) (first_of s i)
+        (first-half region i l))
         first).1
       where
         first : (r : Record) → r ∈ of_cycle s i → rank_in s (record_at s (first_of s i)) ≤ rank_in s r

@@ -80,7 +80,8 @@ module _ {s : List ℤ} (region : Region s) where
             (not-false _
             (first_from-fails (off_corner (record_at s j).dom) (record_at s) j (record_count s) (omega arith) i h g))
 
-        not_at : (i : ℕ) → same (record_at s i).dom (record_at s j).dom ≡ false → (record_at s i).dom ≡ (record_at s j).dom
+        not_at : (i : ℕ) → same (record_at s i).dom (record_at s j).dom ≡ false
+            → (record_at s i).dom ≡ (record_at s j).dom
             → ⊥
         not_at i h d = true≢false (sym (is_same _ _ d) ∙ h)
 

@@ -11,7 +11,8 @@ pub record Closed (s : List ℤ) (c : List ℕ) : Type 0 where
   pub some : 0 < length c
   pub chain : (k : ℕ) → suc k < length c → (record_at s (get_or c k 0)).other ≡ (record_at s (get_or c (suc k) 0)).dom
   pub ends : (record_at s (get_or c (length c - 1) 0)).other ≡ (record_at s (get_or c 0 0)).dom
-  pub simple : (j k : ℕ) → j < k → k < length c → (record_at s (get_or c j 0)).dom ≡ (record_at s (get_or c k 0)).dom → ⊥
+  pub simple : (j k : ℕ) → j < k → k < length c
+      → (record_at s (get_or c j 0)).dom ≡ (record_at s (get_or c k 0)).dom → ⊥
 
 pub record Together (cs : List (List ℕ)) (a b : ℕ) : Type 0 where
   pub it : List ℕ
