@@ -84,7 +84,6 @@ fn row_of(k: usize) -> usize
 }
 
 // No chart has less than nothing inside.
-#[tactic(auto, using(crate::proofs::Sets::for_charts_magnitude))]
 fn magnitude(z: i64) -> u64 {
     if z < 0 {
         return 0;
