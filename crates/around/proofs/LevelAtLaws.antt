@@ -25,7 +25,6 @@ use Rattle.plane.proofs.WithinLaws.{EndOf}
 use Rattle.plane.proofs.SpanLaws.{EndAt, inside-or-end, one-point}
 use Rattle.plane.proofs.ColumnLaws.{covers-is, reaches-is, covers-spans, reaches-spans}
 use Rattle.region.proofs.Charts.{EvenChart}
-use Rattle.region.proofs.ColumnLemma.{column}
 
 module _ {W : ℕ} (M : ℕ) (scale : Scale W M) {ss : List Segment} (chart : EvenChart W ss) (d : Point)
     (outside : (t : Segment) → t ∈ ss → within t d ≡ false) where

@@ -89,7 +89,7 @@ module _ {W : ℕ} (M : ℕ) (scale : Scale W M) {cs : List (List Record)} {us :
       where
         go : ((t : Segment) → t ∈ us → across M x η t ≡ false) ⊎ Top (across M x η) (λ t. 0) us
             → odd (count (across M x η) (kept_in f cs us))
-                ≡ f (odd_in (from_left M x η) cs) ⊕ f (odd_in (to_right M x η) cs)
+            ≡ f (odd_in (from_left M x η) cs) ⊕ f (odd_in (to_right M x η) cs)
         go (inl none) =
             ap odd (count-off (across M x η) (kept_in f cs us) (λ t m. none t (keep-mem (keeps f cs) us t m).0))
             ∙ sym (xor_self (f (odd_in (from_left M x η) cs)) (f (odd_in (to_right M x η) cs))

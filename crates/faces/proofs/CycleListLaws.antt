@@ -42,9 +42,10 @@ entries_at s (i ∷ is) zero l = (refl, refl)
 entries_at s (i ∷ is) (suc c) l =
     let ih = entries_at s is c (omega arith) in
     let first : 2 * suc c ≡ suc (suc (2 * c)) = omega arith in
-    let second : 2 * suc c + 1 ≡ suc (suc (2 * c + 1)) = omega arith in
-    (ap (λ j. get_or (entries_of s (i ∷ is)) j 0) first ∙ ih.0,
-        ap (λ j. get_or (entries_of s (i ∷ is)) j 0) second ∙ ih.1)
+    let second : 2 * suc c + 1 ≡ suc (suc (2 * c + 1)) = omega arith in (
+      ap (λ j. get_or (entries_of s (i ∷ is)) j 0) first ∙ ih.0,
+      ap (λ j. get_or (entries_of s (i ∷ is)) j 0) second ∙ ih.1,
+    )
 
 module _ {s : List ℤ} {labels cycles labels' cycles' : List ℕ} {m k : ℕ}
     (told : Told s labels cycles labels' cycles' m k) where

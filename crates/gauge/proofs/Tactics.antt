@@ -9,8 +9,19 @@ use Rattle.gauge.proofs.PressureLaws.{pin-exactly}
 use Rattle.gauge.proofs.ReadingLaws.{own-units, pressure-whole, row-of-pressure, return-21, return-22, return-23}
 use Rattle.gauge.proofs.Plain.{mul_held, product_value, sub_held, difference_value, literal_256, literal_65536, literal-minus_65536, near_low, near_high, factor_answered, sound_spring, sound_bridge}
 
-pub ruleset cuts = (within, beyond, near_low, near_high, counted, left_over, uncounted, literal_256, literal_65536,
-    literal-minus_65536, to_z-of_z)
+pub ruleset cuts = (
+  within,
+  beyond,
+  near_low,
+  near_high,
+  counted,
+  left_over,
+  uncounted,
+  literal_256,
+  literal_65536,
+  literal-minus_65536,
+  to_z-of_z,
+)
 
 pub ruleset factor_counts = (factor-below, factor_answered, to_z-of_z)
 

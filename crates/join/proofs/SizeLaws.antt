@@ -48,6 +48,6 @@ module _ (op : Op) (a b : List ℤ) where
       let first = keep (kept_first op a b) (records a) in
       let second = keep (kept_second op a b) (records b) in
       let counts = ap₂ ◌+◌ (keep-length (kept_first op a b) (records a))
-        (keep-length (kept_second op a b) (records b)) in
+      (keep-length (kept_second op a b) (records b)) in
       let size = result-length ∙ ap length kept-both ∙ length-append first second ∙ counts in
       record { is = omega (arith, size, h.is, g.is); most = omega (arith, h.most, g.most) }

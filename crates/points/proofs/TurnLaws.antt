@@ -20,8 +20,10 @@ module _ (p q r : Point) {m n : ℕ} (em : m ≡ minus p q r) (en : n ≡ plus p
 
   pub turn_of-right : n < m → Right ≡ turn_of p q r
   unfolding turn_of turns_left turns_right
-  turn_of-right l = rw (le-ltb (minus p q r) (plus p q r) (omega arith),
-      lt-ltb (plus p q r) (minus p q r) (omega arith))
+  turn_of-right l = rw (
+    le-ltb (minus p q r) (plus p q r) (omega arith),
+    lt-ltb (plus p q r) (minus p q r) (omega arith),
+  )
 
   pub turn_of-straight : n ≤ m → m ≤ n → Straight ≡ turn_of p q r
   unfolding turn_of turns_left turns_right

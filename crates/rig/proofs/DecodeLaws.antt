@@ -115,7 +115,7 @@ module _ (op : Op) (a b lent : List ℤ) where
 
       go : (o : Outcome) → outcome op a b (length lent) ≡ o
           → let j = joining.answer_of o in
-            Decoded (join_answer j) (join_value j) (join_refusal j).number (chart_named j) 0
+          Decoded (join_answer j) (join_value j) (join_refusal j).number (chart_named j) 0
       go (joined rs) e =
           packed-decoded _ 0 0 0 (rw (ap (λ o. join_value (joining.answer_of o)) e) at small) (omega arith)
           (omega arith)

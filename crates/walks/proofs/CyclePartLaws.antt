@@ -94,7 +94,7 @@ module _ {s : List ℤ} (region : Region s) (i : ℕ) (l : i < record_count s) w
         sum-map other_half (λ r. ind (departs r) * v r) way,
         sum-ext (λ r. ind (departs r) * v r) v way (λ r m. walked r (departs r) (way-sub r m).1),
         sum-ext (λ r. ind (departs (other_half r)) * v (other_half r)) (λ r. 0) way
-        (λ r m. back r (departs (other_half r))
+            (λ r m. back r (departs (other_half r))
             (one_way (ranked-region region) r (way-sub r m).0 ∙ ap not (way-sub r m).1)),
         sum-zero way,
       )

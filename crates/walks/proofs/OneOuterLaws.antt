@@ -72,7 +72,7 @@ module _ {s : List ℤ} (region : Region s) where
   pub outer-found : (i : ℕ) → i < record_count s → is_outer s i ≡ true → outer_in s (start_of s i) ≡ first_of s i
   unfolding outer_in
   outer-found i l o =
-      sym (first_from-unique (outer_of s (start_of s i)) (λ j. j) 0 (record_count s) zero-le f zero-le 
+      sym (first_from-unique (outer_of s (start_of s i)) (λ j. j) 0 (record_count s) zero-le f zero-le
       (omega (arith, less))
       (λ k. and_intro
       (and_intro (eq-eqb (first_of s f) f (first-first region i l))

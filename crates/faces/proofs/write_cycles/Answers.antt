@@ -9,6 +9,6 @@ loop-passed-init c = search (rules, entered-none)
 pub loop-passed-preserved : goal.loop-passed-preserved
 loop-passed-preserved c =
     elim c.if-f-passed.branch [
-      then-f-passed w ↦ search (rules, entered-more)
-    | else-f-passed w ↦ search (rules, entered-still)
+      | then-f-passed w ↦ search (rules, entered-more)
+      | else-f-passed w ↦ search (rules, entered-still)
     ]
