@@ -1,8 +1,8 @@
 #!/usr/bin/env bash
 # Every public function of a library has, in the crate promises, a theorem that any two of its outcomes coincide:
-# pub fn NAME has same-NAME, with a dash or _ between its words. And no public function asks anything of its caller.
+# pub fn NAME has same-NAME, with dashes. And no public function asks anything of its caller.
 # The functions of rig_c, which no crate can name, have the theorems of rig's: each has its parameters and its clauses,
-# word for word.
+# word for word, and the words come from the same modules.
 set -u
 cd "$(dirname "$0")/.." || exit 2
 passed=0 failed=0
@@ -18,8 +18,8 @@ exports() {
 for source in crates/*/src/*.rt; do
     [ -f "$(dirname "$source")/main.rt" ] && continue
     while read -r name; do
-        law="same[-_]${name//_/[-_]}"
-        grep -qE "^pub $law :" crates/promises/proofs/*.antt
+        law="same-${name//_/-}"
+        grep -q "^pub $law :" crates/promises/proofs/*.antt
         note $? "$source: no theorem $law for the public function $name"
         ! awk -v name="$name" '
             $0 ~ "pub (extern \"C\" )?fn " name "[<(]" { on = 1 }
@@ -43,6 +43,13 @@ for name in $(exports crates/rig_c/src/lib.rt); do
     [ -n "$promised" ] && [ "$promised" = "$(promise crates/rig_c/src/lib.rt "$name")" ]
     note $? "crates/rig_c/src/lib.rt: $name does not promise what it does in crates/rig/src/lib.rt"
 done
+# words SOURCE: each name that its clauses take from elsewhere, behind the module that it takes it from.
+words() {
+    sed -nE 's/^ghost use (.*)\.\{(.*)\};$/\1 \2/p' "$1" | tr -d ',' | awk '{ for (i = 2; i <= NF; i++) print $1 "." $i }' | sort
+}
+
+[ -z "$(comm -13 <(words crates/rig/src/lib.rt) <(words crates/rig_c/src/lib.rt))" ]
+note $? "crates/rig_c/src/lib.rt: its clauses take a word from where crates/rig/src/lib.rt does not"
 [ "$(exports crates/rig/src/lib.rt)" = "$(exports crates/rig_c/src/lib.rt)" ]
 note $? "crates/rig_c/src/lib.rt: not the functions of crates/rig/src/lib.rt"
 

@@ -3,7 +3,7 @@
 --                         walked to the left
 --     gains, losses       the gains are what lies below the segments walked to the left, and the ground below those
 --                         walked to the right; the losses the other way round
---     both-ways           where records that depart leave and reach the same columns, each as often, as much is walked
+--     both_ways           where records that depart leave and reach the same columns, each as often, as much is walked
 --                         to the right as to the left
 -- Assumes nothing.
 use mathlib.Core.Path.{◌≡◌, refl, sym, ap, ap₂, ◌∙◌}

@@ -40,10 +40,10 @@ module _ {rs : List Record} {rank : Record → ℕ} (ranked : Ranked rs rank) wh
       → ((r : Record) → r ∈ A → departs r ≡ true → left_of B r ≡ true)
       → ((r : Record) → r ∈ B → departs r ≡ true → left_of A r ≡ true)
       → (r : Record) → r ∈ A → ⊥
-  smallest-point {A} {B} one other apart onA onB r m =
+  smallest-point {A} {B} one other apart on_a on_b r m =
       let a = lowest (λ e. true) rank (A ++ B) r (Memᴰ.append_left B m) refl in
       go a.0 (Memᴰ.append_cases A a.1) (λ e n. a.3 e n refl)
     where
       go : (a : Record) → (a ∈ A) ⊎ (a ∈ B) → ((e : Record) → e ∈ A ++ B → rank a ≤ rank e) → ⊥
-      go a (inl k) first = ahead one other apart onA a k (λ e n. first e (Memᴰ.append_right A n))
-      go a (inr k) first = ahead other one (λ e n h. apart e h n) onB a k (λ e n. first e (Memᴰ.append_left B n))
+      go a (inl k) first = ahead one other apart on_a a k (λ e n. first e (Memᴰ.append_right A n))
+      go a (inr k) first = ahead other one (λ e n h. apart e h n) on_b a k (λ e n. first e (Memᴰ.append_left B n))

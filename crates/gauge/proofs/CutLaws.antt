@@ -3,7 +3,7 @@
 --     scale         256, as the code has it
 --     castable      the product has a whole part that fits 64 bits
 --     counted       where that, as a float, equals the product, x is a multiple of 1/256 and has that many of them
---     left-over     where it does not, x is none
+--     left_over     where it does not, x is none
 --     uncounted     and what is none is answered so
 -- Assumes nothing.
 use Rattle.std.proofs.Common.{◌≡◌, ℕ, zero, suc, ◌+◌, ◌-◌, ◌*◌, ◌/◌, ◌%◌, ◌^◌, ◌<◌, ◌≤◌, Bool, true, false, ◌&&◌, ◌||◌, T, eqb, ltb, leb, ℤ, pos, negsuc, sym, refl, ap, ◌∙◌, lt_of_lt_of_le, lt_of_le_of_lt, lt_irrefl, mul-le-mul_right, mul_assoc, div-add-mod', zero-mul, mul-one, arith, lit<, ltb→lt, leb→le, pow_pos, pow_mono, pow-add, shl_lt, w64, to_z, of_z, eq-eqb, ne_eqb, eqb-true, le-leb, leb-false, leb-true}

@@ -42,11 +42,11 @@ stretch k m n small h =
 -- e * (d - b). The last only takes away. The first takes away too, or else the two stretch from b up to d.
 first-lowest : (a b c d e f : ℕ) → a < 65536 → c < 65536 → d < 65536 → f < 65536 → b ≤ d → b ≤ f
     → a * d + c * f + e * b ≤ b * c + d * e + f * a + largest_product
-first-lowest a b c d e f a_small c-small d_small f-small bd bf = by_height (le-or-ge d f)
+first-lowest a b c d e f a_small c_small d_small f_small bd bf = by_height (le-or-ge d f)
   where
     by_height : (d ≤ f) ⊎ (f ≤ d) → a * d + c * f + e * b ≤ b * c + d * e + f * a + largest_product
-    by_height (inl df) = omega (arith, mul-le-mul_left a df, stretch c f b c-small bf, mul-le-mul_left e bd)
-    by_height (inr fd) = omega (arith, stretch a d f a_small fd, stretch c f b c-small bf, mul-le-mul_left e bd)
+    by_height (inl df) = omega (arith, mul-le-mul_left a df, stretch c f b c_small bf, mul-le-mul_left e bd)
+    by_height (inr fd) = omega (arith, stretch a d f a_small fd, stretch c f b c_small bf, mul-le-mul_left e bd)
 
 -- a turn of the three points changes neither sum, so that any of them may be the lowest
 plus-near : (p q r : Point) → OnGrid p → OnGrid q → OnGrid r → plus p q r ≤ minus p q r + largest_product

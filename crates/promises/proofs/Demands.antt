@@ -1,5 +1,6 @@
 -- The three demands, each one theorem, sentence by sentence: the page to open first.
---     demand-1     each question, and each function for C and Rust, ends with an answer or a numbered refusal
+--     demand-1     each question, and each function for C and Rust, ends with an answer or a numbered refusal. Of the
+--                  latter it is over rig's; rig_c exports each with the same promise, and no crate can name an export
 --     Demand2, demand-2     a chart is accepted exactly when it is a region; answers follow document 01's rules and are
 --                  pinned down
 --     Demand3, demand-3     the nearest boundary's mark; combined charts

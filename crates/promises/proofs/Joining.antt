@@ -1,5 +1,5 @@
 -- What the library promises of joining, over document 01's rules, for whatever arrays.
---     union-inside, intersection-inside, difference_inside    demand 3's second part, by operation: or, and, and-not
+--     union-inside, intersection-inside, difference-inside    demand 3's second part, by operation: or, and, and-not
 --     any-charts        demand 3's second part in its widest form: any number of charts, and any function of their
 --                       answers that is false where all are false
 --     any-marks         and the result's marks are that function of the upper sides
@@ -44,21 +44,21 @@ use Rattle.promises.proofs.Promises.{combined-charts}
 -- ---- two charts, by operation
 
 module _ (a b : List ℤ) (v : verdict a ≡ Accepted) (w : verdict b ≡ Accepted) (lent out : List ℤ) (n : ℕ) (p : Point)
-    (offA : held (records a) p ≡ false) (offB : held (records b) p ≡ false) where
+    (off_a : held (records a) p ≡ false) (off_b : held (records b) p ≡ false) where
   -- what is written, at p
   abbrev says : Bool
   says = is_inside (placed (take (width * n) out) p)
 
   pub union-inside : Joins Union a b lent out (Records n) → says ≡ is_inside (placed a p) || is_inside (placed b p)
-  union-inside h = (combined-charts Union a b v w lent out n h).1 p offA offB
+  union-inside h = (combined-charts Union a b v w lent out n h).1 p off_a off_b
 
   pub intersection-inside : Joins Intersection a b lent out (Records n)
       → says ≡ is_inside (placed a p) && is_inside (placed b p)
-  intersection-inside h = (combined-charts Intersection a b v w lent out n h).1 p offA offB
+  intersection-inside h = (combined-charts Intersection a b v w lent out n h).1 p off_a off_b
 
-  pub difference_inside : Joins Difference a b lent out (Records n)
+  pub difference-inside : Joins Difference a b lent out (Records n)
       → says ≡ is_inside (placed a p) && not (is_inside (placed b p))
-  difference_inside h = (combined-charts Difference a b v w lent out n h).1 p offA offB
+  difference-inside h = (combined-charts Difference a b v w lent out n h).1 p off_a off_b
 
 -- ---- any number of charts
 

@@ -19,17 +19,17 @@ use Rattle.grid.proofs.Coord.of_wide.Reads as of-wide
 use Rattle.grid.proofs.Coord.count.Kinds as count-kinds
 use Rattle.grid.proofs.Coord.count.Reads as count
 use Rattle.grid.proofs.Coord.at_count.Kinds as at-count-kinds
-use Rattle.grid.proofs.Coord.at_count.Reads as at_count
+use Rattle.grid.proofs.Coord.at_count.Reads as at-count
 use Rattle.grid.proofs.count_of.Kinds as count-of-kinds
-use Rattle.grid.proofs.count_of.Reads as count_of
+use Rattle.grid.proofs.count_of.Reads as count-of
 use Rattle.grid.proofs.number_at.Kinds as number-at-kinds
-use Rattle.grid.proofs.number_at.Reads as number_at
+use Rattle.grid.proofs.number_at.Reads as number-at
 use Rattle.grid.proofs.point_of.Kinds as point-of-kinds
 use Rattle.grid.proofs.point_of.Reads as point-of
 use Rattle.points.proofs.is_before.Kinds as is-before-kinds
 use Rattle.points.proofs.is_before.Reads as is-before
 use Rattle.points.proofs.is_same.Kinds as is-same-kinds
-use Rattle.points.proofs.is_same.Reads as is_same
+use Rattle.points.proofs.is_same.Reads as is-same
 use Rattle.points.proofs.product.Kinds as product-kinds
 use Rattle.points.proofs.product.Reads as product
 use Rattle.points.proofs.turn_of.Kinds as turn-of-kinds
@@ -45,7 +45,7 @@ use Rattle.record.proofs.record_at.Reads as record-at
 use Rattle.record.proofs.is_left.Kinds as is-left-kinds
 use Rattle.record.proofs.is_left.Reads as is-left
 use Rattle.record.proofs.other_half.Kinds as other-half-kinds
-use Rattle.record.proofs.other_half.Reads as other_half
+use Rattle.record.proofs.other_half.Reads as other-half
 use Rattle.record.proofs.order.is_earlier.Kinds as is-earlier-kinds
 use Rattle.record.proofs.order.is_earlier.Reads as is-earlier
 use Rattle.parts.proofs.is_elsewhere.Kinds as is-elsewhere-kinds
@@ -83,9 +83,9 @@ use Rattle.among.proofs.end_count.Reads as end-count
 use Rattle.among.proofs.counted_mark.Kinds as counted-mark-kinds
 use Rattle.among.proofs.counted_mark.Reads as counted-mark
 use Rattle.among.proofs.place_of.Kinds as place-of-kinds
-use Rattle.among.proofs.place_of.Reads as place_of
+use Rattle.among.proofs.place_of.Reads as place-of
 use Rattle.question.proofs.is_below.Kinds as is-below-kinds
-use Rattle.question.proofs.is_below.Reads as is_below
+use Rattle.question.proofs.is_below.Reads as is-below
 use Rattle.question.proofs.is_edge.Kinds as is-edge-kinds
 use Rattle.question.proofs.is_edge.Reads as is-edge
 use Rattle.question.proofs.place_by.Kinds as place-by-kinds
@@ -104,8 +104,8 @@ use Rattle.promises.proofs.Settled.{Settled}
 
 -- ---- grid
 
-pub same_new : Settled 0 new-kinds.ps new-kinds.r new.Pre new.Post
-same_new = ((λ κs a. tt), (λ κs a v w s t h k. h ∙ sym k))
+pub same-new : Settled 0 new-kinds.ps new-kinds.r new.Pre new.Post
+same-new = ((λ κs a. tt), (λ κs a v w s t h k. h ∙ sym k))
 
 pub same-least : Settled 0 least-kinds.ps least-kinds.r least.Pre least.Post
 same-least = ((λ κs a. tt), (λ κs a v w s t h k. h ∙ sym k))
@@ -116,16 +116,16 @@ same-greatest = ((λ κs a. tt), (λ κs a v w s t h k. h ∙ sym k))
 pub same-of-wide : Settled 0 of-wide-kinds.ps of-wide-kinds.r of-wide.Pre of-wide.Post
 same-of-wide = ((λ κs a. tt), (λ κs a v w s t h k. h ∙ sym k))
 
-pub same_count : Settled 0 count-kinds.ps count-kinds.r count.Pre count.Post
-same_count = ((λ κs a. tt), (λ κs a v w s t h k. h ∙ sym k))
+pub same-count : Settled 0 count-kinds.ps count-kinds.r count.Pre count.Post
+same-count = ((λ κs a. tt), (λ κs a v w s t h k. h ∙ sym k))
 
-pub same-at-count : Settled 0 at-count-kinds.ps at-count-kinds.r at_count.Pre at_count.Post
+pub same-at-count : Settled 0 at-count-kinds.ps at-count-kinds.r at-count.Pre at-count.Post
 same-at-count = ((λ κs a. tt), (λ κs a v w s t h k. h ∙ sym k))
 
-pub same-count-of : Settled 0 count-of-kinds.ps count-of-kinds.r count_of.Pre count_of.Post
+pub same-count-of : Settled 0 count-of-kinds.ps count-of-kinds.r count-of.Pre count-of.Post
 same-count-of = ((λ κs a. tt), (λ κs a v w s t h k. h ∙ sym k))
 
-pub same-number-at : Settled 0 number-at-kinds.ps number-at-kinds.r number_at.Pre number_at.Post
+pub same-number-at : Settled 0 number-at-kinds.ps number-at-kinds.r number-at.Pre number-at.Post
 same-number-at = ((λ κs a. tt), (λ κs a v w s t h k. h ∙ sym k))
 
 pub same-point-of : Settled 0 point-of-kinds.ps point-of-kinds.r point-of.Pre point-of.Post
@@ -136,7 +136,7 @@ same-point-of = ((λ κs a. tt), (λ κs a v w s t h k. h ∙ sym k))
 pub same-is-before : Settled 0 is-before-kinds.ps is-before-kinds.r is-before.Pre is-before.Post
 same-is-before = ((λ κs a. tt), (λ κs a v w s t h k. h ∙ sym k))
 
-pub same-is-same : Settled 0 is-same-kinds.ps is-same-kinds.r is_same.Pre is_same.Post
+pub same-is-same : Settled 0 is-same-kinds.ps is-same-kinds.r is-same.Pre is-same.Post
 same-is-same = ((λ κs a. tt), (λ κs a v w s t h k. h ∙ sym k))
 
 pub same-product : Settled 0 product-kinds.ps product-kinds.r product.Pre product.Post
@@ -162,7 +162,7 @@ same-record-at = ((λ κs a. tt), (λ κs a v w s t h k. h ∙ sym k))
 pub same-is-left : Settled 0 is-left-kinds.ps is-left-kinds.r is-left.Pre is-left.Post
 same-is-left = ((λ κs a. tt), (λ κs a v w s t h k. h ∙ sym k))
 
-pub same-other-half : Settled 0 other-half-kinds.ps other-half-kinds.r other_half.Pre other_half.Post
+pub same-other-half : Settled 0 other-half-kinds.ps other-half-kinds.r other-half.Pre other-half.Post
 same-other-half = ((λ κs a. tt), (λ κs a v w s t h k. h ∙ sym k))
 
 pub same-is-earlier : Settled 0 is-earlier-kinds.ps is-earlier-kinds.r is-earlier.Pre is-earlier.Post
@@ -228,12 +228,12 @@ same-end-count = ((λ κs a. tt), (λ κs a v w s t h k. h ∙ sym k))
 pub same-counted-mark : Settled 1 counted-mark-kinds.ps counted-mark-kinds.r counted-mark.Pre counted-mark.Post
 same-counted-mark = ((λ κs a. tt), (λ κs a v w s t h k. h ∙ sym k))
 
-pub same-place-of : Settled 1 place-of-kinds.ps place-of-kinds.r place_of.Pre place_of.Post
+pub same-place-of : Settled 1 place-of-kinds.ps place-of-kinds.r place-of.Pre place-of.Post
 same-place-of = ((λ κs a. tt), (λ κs a v w s t h k. h.is ∙ sym k.is))
 
 -- ---- question
 
-pub same-is-below : Settled 0 is-below-kinds.ps is-below-kinds.r is_below.Pre is_below.Post
+pub same-is-below : Settled 0 is-below-kinds.ps is-below-kinds.r is-below.Pre is-below.Post
 same-is-below = ((λ κs a. tt), (λ κs a v w s t h k. h ∙ sym k))
 
 pub same-is-edge : Settled 1 is-edge-kinds.ps is-edge-kinds.r is-edge.Pre is-edge.Post

@@ -1,9 +1,9 @@
 -- Nothing is asked of a question's caller, and any two outcomes that its promise allows coincide. Where it writes into
 -- a lent array, so does what the array then holds.
---     same_check, same_point, same-nearest-below, same-inside-by-mark, same-area2    the answer
+--     same-check, same-point, same-nearest-below, same-inside-by-mark, same-area2    the answer
 --     point-by-mark     and what `point` and `inside_by_mark` answer is one
 --     same-read-sample  the refusal's number, the pressure as a float and the row, for every card and sample
---     same_read         the answer and the lent array, for every file and array
+--     same-read         the answer and the lent array, for every file and array
 --     same-combine      the answer and the lent array, for every two arrays and every array lent
 --     same-faces        the answer and both lent arrays, for every array and every two arrays lent
 --     same-joins        or, and, and-not
@@ -49,30 +49,30 @@ use Rattle.file.proofs.read.Reads as read
 use Rattle.number.proofs.take_number.Kinds as take-number-kinds
 use Rattle.number.proofs.take_number.Reads as take-number
 use Rattle.number.proofs.signed_of.Kinds as signed-of-kinds
-use Rattle.number.proofs.signed_of.Reads as Signed-of
+use Rattle.number.proofs.signed_of.Reads as signed-of
 use Rattle.question.proofs.corner.Kinds as corner-kinds
 use Rattle.question.proofs.corner.Reads as corner
 use Rattle.parts.proofs.run_at.Kinds as run-at-kinds
-use Rattle.parts.proofs.run_at.Reads as run_at
+use Rattle.parts.proofs.run_at.Reads as run-at
 use Rattle.parts.proofs.smaller_head.Kinds as smaller-head-kinds
 use Rattle.parts.proofs.smaller_head.Reads as smaller-head
 use Rattle.question.proofs.corner_of.Kinds as corner-of-kinds
 use Rattle.question.proofs.corner_of.Reads as corner-of
 use Rattle.parts.proofs.run_of.Kinds as run-of-kinds
-use Rattle.parts.proofs.run_of.Reads as run_of
+use Rattle.parts.proofs.run_of.Reads as run-of
 use Rattle.parts.proofs.head_of.Kinds as head-of-kinds
-use Rattle.parts.proofs.head_of.Reads as head_of
+use Rattle.parts.proofs.head_of.Reads as head-of
 use Rattle.promises.proofs.Settled.{Settled, SamePart, SettledPart, SettledLent}
 
 -- ---- chart
 
-pub same_check : Settled 1 check-kinds.ps check-kinds.r check.Pre check.Post
-same_check = ((λ κs a. tt), (λ κs a v w s t h k. h ∙ sym k))
+pub same-check : Settled 1 check-kinds.ps check-kinds.r check.Pre check.Post
+same-check = ((λ κs a. tt), (λ κs a v w s t h k. h ∙ sym k))
 
 -- ---- question
 
-pub same_point : Settled 1 point-kinds.ps point-kinds.r point.Pre point.Post
-same_point = ((λ κs a. tt), (λ κs a v w s t h k. h ∙ sym k))
+pub same-point : Settled 1 point-kinds.ps point-kinds.r point.Pre point.Post
+same-point = ((λ κs a. tt), (λ κs a v w s t h k. h ∙ sym k))
 
 pub same-nearest-below : Settled 1 nearest-below-kinds.ps nearest-below-kinds.r nearest-below.Pre nearest-below.Post
 same-nearest-below = ((λ κs a. tt), (λ κs a v w s t h k. h ∙ sym k))
@@ -115,13 +115,13 @@ same-faces = ((λ κs a. tt), (λ κs a v w s t h k. lists-one h k))
 
 -- ---- file
 
-pub same_read : SettledLent 2 read-kinds.ps read-kinds.r (List ℤ) (λ κs s. s.1.0.now) read.Pre read.Post
-same_read = ((λ κs a. tt), (λ κs a v w s t h k. (h.says ∙ sym k.says, h.leaves ∙ sym k.leaves)))
+pub same-read : SettledLent 2 read-kinds.ps read-kinds.r (List ℤ) (λ κs s. s.1.0.now) read.Pre read.Post
+same-read = ((λ κs a. tt), (λ κs a v w s t h k. (h.says ∙ sym k.says, h.leaves ∙ sym k.leaves)))
 
 pub same-take-number : Settled 1 take-number-kinds.ps take-number-kinds.r take-number.Pre take-number.Post
 same-take-number = ((λ κs a. tt), (λ κs a v w s t h k. h ∙ sym k))
 
-pub same-signed-of : Settled 0 signed-of-kinds.ps signed-of-kinds.r Signed-of.Pre Signed-of.Post
+pub same-signed-of : Settled 0 signed-of-kinds.ps signed-of-kinds.r signed-of.Pre signed-of.Post
 same-signed-of = ((λ κs a. tt), (λ κs a v w s t h k. h ∙ sym k))
 
 -- ---- parts of an array
@@ -132,16 +132,16 @@ same-part p q h k = (h.numbers ∙ sym k.numbers, h.array ∙ sym k.array, h.pla
 pub same-corner-of : Settled 1 corner-of-kinds.ps corner-of-kinds.r corner-of.Pre corner-of.Post
 same-corner-of = ((λ κs a. tt), (λ κs a v w s t h k. h ∙ sym k))
 
-pub same-run-of : Settled 1 run-of-kinds.ps run-of-kinds.r run_of.Pre run_of.Post
+pub same-run-of : Settled 1 run-of-kinds.ps run-of-kinds.r run-of.Pre run-of.Post
 same-run-of = ((λ κs a. tt), (λ κs a v w s t h k. h ∙ sym k))
 
-pub same-head-of : Settled 2 head-of-kinds.ps head-of-kinds.r head_of.Pre head_of.Post
+pub same-head-of : Settled 2 head-of-kinds.ps head-of-kinds.r head-of.Pre head-of.Post
 same-head-of = ((λ κs a. tt), (λ κs a v w s t h k. h ∙ sym k))
 
 pub same-corner : SettledPart 1 corner-kinds.ps corner-kinds.r corner.Pre corner.Post
 same-corner = ((λ κs a. tt), (λ κs a p q s t h k. same-part p q h k))
 
-pub same-run-at : SettledPart 1 run-at-kinds.ps run-at-kinds.r run_at.Pre run_at.Post
+pub same-run-at : SettledPart 1 run-at-kinds.ps run-at-kinds.r run-at.Pre run-at.Post
 same-run-at = ((λ κs a. tt), (λ κs a p q s t h k. same-part p q h k))
 
 pub same-smaller-head : SettledPart 1 smaller-head-kinds.ps smaller-head-kinds.r smaller-head.Pre smaller-head.Post
@@ -166,8 +166,8 @@ pub record Pinned : Type 0 where
 
 pub pinned : Pinned
 pinned = record {
-  check = same_check;
-  point = same_point;
+  check = same-check;
+  point = same-point;
   inside-by-mark = same-inside-by-mark;
   nearest-below = same-nearest-below;
   area2 = same-area2;
@@ -176,5 +176,5 @@ pinned = record {
   smaller-head = same-smaller-head;
   faces = same-faces;
   combine = same-combine;
-  read = same_read;
+  read = same-read;
 }

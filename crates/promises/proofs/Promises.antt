@@ -132,10 +132,10 @@ pub combined-charts :
     ≡ joined_by op (is_inside (placed a p)) (is_inside (placed b p)))
 combined-charts op a b v w lent out n joins = (
   ap verdict c.is ∙ (accepted-is _).1 (result-region together (joining op) (joining-none op) few),
-  λ p offA offB.
+  λ p off_a off_b.
       ap (λ s. is_inside (placed s p)) c.is
       ∙ ap is_inside (result-place together (joining op) (joining-none op) p
-      (of-both (λ s. held (records s) p ≡ false) offA offB) few)
+      (of-both (λ s. held (records s) p ≡ false) off_a off_b) few)
       ∙ by_side (joined_by op (is_inside (placed a p)) (is_inside (placed b p))),
 )
   where

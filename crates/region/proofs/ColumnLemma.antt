@@ -67,12 +67,12 @@ module _ {W : ℕ} (M : ℕ) (scale : Scale W M) where
         upward (inl s) e = omega arith
         upward (inr s) e = omega arith
 
-        go : {aLeft aAt aRight bLeft b_at bRight : Bool} → Before t.a t.b
-            → Lies t.a.x c aLeft aAt aRight → Lies t.b.x c bLeft b_at bRight
-            → (ind (aLeft && not bLeft && ltb (height M t (2 * c)) η)
-            + ind (not aRight && bRight && ltb (height M t (2 * c)) η)
-            + ind (aAt && b_at && ltb (2 * M * t.a.y) η && not (ltb (2 * M * t.b.y) η))) % 2
-            ≡ (ind (aAt && ltb (2 * M * t.a.y) η) + ind (b_at && ltb (2 * M * t.b.y) η)) % 2
+        go : {a_left a_at a_right b_left b_at b_right : Bool} → Before t.a t.b
+            → Lies t.a.x c a_left a_at a_right → Lies t.b.x c b_left b_at b_right
+            → (ind (a_left && not b_left && ltb (height M t (2 * c)) η)
+            + ind (not a_right && b_right && ltb (height M t (2 * c)) η)
+            + ind (a_at && b_at && ltb (2 * M * t.a.y) η && not (ltb (2 * M * t.b.y) η))) % 2
+            ≡ (ind (a_at && ltb (2 * M * t.a.y) η) + ind (b_at && ltb (2 * M * t.b.y) η)) % 2
         go o (left h) (left g) = refl
         go o (left h) (at g) =
             let end : height M t (2 * c) ≡ 2 * M * t.b.y = rw (← g) (height-b M scale t (omega arith) small) in
