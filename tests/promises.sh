@@ -43,6 +43,7 @@ for name in $(exports crates/rig_c/src/lib.rt); do
     [ -n "$promised" ] && [ "$promised" = "$(promise crates/rig_c/src/lib.rt "$name")" ]
     note $? "crates/rig_c/src/lib.rt: $name does not promise what it does in crates/rig/src/lib.rt"
 done
+
 # words SOURCE: each name that its clauses take from elsewhere, behind the module that it takes it from.
 words() {
     sed -nE 's/^ghost use (.*)\.\{(.*)\};$/\1 \2/p' "$1" | tr -d ',' | awk '{ for (i = 2; i <= NF; i++) print $1 "." $i }' | sort

@@ -2,7 +2,7 @@
 -- for any test p, any value v and any f.
 --     Seen p f a n i      from a up to i none passed, so the first from i on is the first from a on
 --     `Counted p f i m` and `Summed v f b i m` of specs/Scan.antt are what a loop that counts or sums holds at i
---     scanning            for `search`: what closes the needs of such a loop
+--     scanning            for `search`: what closes the goals of such a loop
 -- Each law takes what the code has, b ≡ p (f i) and b ≡ true, and gives the next invariant or the contract.
 -- Loops that read f i into a variable first: ReadLaws.antt.
 -- Assumes nothing.

@@ -2,7 +2,7 @@
 -- a first place or a count says of the whole list.
 --     read-hit, read_more      looking for the first
 --     read-yes, read_no        counting
---     reading                  for `search`: what closes the needs of such a loop
+--     reading                  for `search`: what closes the goals of such a loop
 --     found_from               a first place, with its range
 --     found-passes             what stands at a first place passes
 --     found-any                a first place is below n exactly if some member passes

@@ -2,7 +2,7 @@
 --     cutting-none        it holds at first
 --     cutting-round, cutting-more      it holds at each record, by whether w would come next
 --     cutting-all         once the walk has come round and is cut where it began, all is written
---     cutting             for `search`: what closes the needs of the loop
+--     cutting             for `search`: what closes the goals of the loop
 -- Assumes nothing.
 use mathlib.Core.Path.{◌≡◌, refl, ap, subst, ◌∙◌}
 use mathlib.Core.List.{List, [], ◌∷◌, ◌++◌}

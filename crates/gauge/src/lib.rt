@@ -133,8 +133,8 @@ fn product(sample: i16, factor: f64) -> f64
 
 #[tactic(auto, using(crate::proofs::Tactics::differences))]
 fn difference(sample: i16, gain: f64, zero: f64) -> f64
-    requires gain_is { is_factor gain ≡ true }
-    requires zero_is { is_zero zero ≡ true }
+    requires sound_gain { is_factor gain ≡ true }
+    requires sound_zero { is_zero zero ≡ true }
     ensures { Exactly result (sample *ℤ units gain -ℤ units zero) }
 {
     product(sample, gain) - zero
@@ -156,7 +156,7 @@ fn pressure_of(card: Card, sample: i16) -> f64
 #[tactic(auto, using(crate::proofs::Tactics::pasts))]
 fn is_past(sample: i16, p: f64, pin: f64) -> bool
     requires exact { Exactly p (units p) }
-    requires pin_is { is_pin pin ≡ true }
+    requires sound_pin { is_pin pin ≡ true }
     ensures { result ≡ (int_lt sample (pos 0) || int_le (units pin) (units p)) }
 {
     (sample < 0) | (p >= pin)
@@ -164,7 +164,7 @@ fn is_past(sample: i16, p: f64, pin: f64) -> bool
 
 #[tactic(auto, using(crate::proofs::Tactics::pins), unfolding(crate::specs::Readings::at_pin))]
 fn is_at_pin(card: Card, sample: i16, p: f64) -> bool
-    requires card_sound { sound card ≡ true }
+    requires sound_card { sound card ≡ true }
     requires exact { Exactly p (pressure card sample) }
     ensures { result ≡ at_pin card sample }
 {

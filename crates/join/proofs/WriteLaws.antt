@@ -8,7 +8,7 @@
 --     room-first, room-second    what taking the next record asks
 --     writing-first, writing-second, fewer-first, fewer-second    one record on
 --     writing-end       where neither has a record left
---     writing           for `search`: what closes the needs of the loop
+--     writing           for `search`: what closes the goals of the loop
 -- Assumes nothing.
 use mathlib.Core.Path.{◌≡◌, sym, ap₂, ◌∙◌, subst}
 use mathlib.Core.List.{List}

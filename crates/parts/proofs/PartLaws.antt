@@ -6,22 +6,20 @@
 --     run_of-none, run_of-some  the run, from the two places that were found
 --     Within s a, run-within    a lies in s, and so does the run
 --     run_rises, run_short      the two halves of that, for a function that cuts by the run
---     first_high                a first place is at most n
---     firsts, whole             for a function's tactic line
+--     whole                     for a function's tactic line: first-whole, second-whole
 -- Assumes nothing.
-use mathlib.Core.Path.{◌≡◌, refl, sym, ap, subst, ◌∙◌}
+use mathlib.Core.Path.{◌≡◌, refl, sym, ap, subst}
 use mathlib.Core.Logic.{◌⊎◌, inl, inr}
 use mathlib.Core.Bool.{Bool, true, false, cond}
 use mathlib.Core.List.{List}
-use Prim.Native.Nat.{ℕ, ◌+◌, ◌*◌, ◌<◌, ◌≤◌, zero-le}
-use native.Mathlib.Numerals.{add-one}
+use Prim.Native.Nat.{ℕ, ◌*◌, ◌<◌, ◌≤◌, zero-le}
 use native.Mathlib.Omega.{arith}
 use lib.IntN.{ℤ}
 use lib.ListN.{length}
 use borrow.Author.Tests.{leb-true, lt-leb, le-leb, lt-ltb, le-ltb}
 use Rattle.counts.specs.Scan.{first_from}
 use Rattle.counts.proofs.TestLaws.{and-true, lt-or-le}
-use Rattle.counts.proofs.ScanLaws.{first_from-end, first_from-hit, first_from-miss, first_from-low, first_from-high}
+use Rattle.counts.proofs.ScanLaws.{first_from-low, first_from-high}
 use Rattle.plane.specs.declared.Point.{Point}
 use Rattle.record.specs.Records.{width, record_at, record_count}
 use Rattle.record.specs.Order.{precedes}
@@ -124,15 +122,3 @@ module _ (s : List ℤ) (p : Point) where
   run_short = (run-within refl).1
 
 pub ruleset whole = (first-whole, second-whole)
-
--- ---- a loop that looks on from a place
-
-module _ {A : Type 0} (p : A → Bool) (f : ℕ → A) where
-  pub first_high : {a n : ℕ} → a < n → first_from p f a n ≤ n
-  first_high {a} {n} l = first_from-high p f a n (omega arith)
-
-  pub first_on : {n i : ℕ} {b : Bool} → i < n → b ≡ p (f i) → b ≡ false → first_from p f (i + 1) n ≡ first_from p f i n
-  first_on {n} {i} l e t =
-      ap (λ j. first_from p f j n) (add-one i) ∙ sym (first_from-miss p f i n l (sym e ∙ t))
-
-pub ruleset firsts = (first_from-end, first_from-hit, first_on)

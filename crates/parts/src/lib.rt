@@ -57,7 +57,7 @@ fn first_there(s: &[i16], p: Point, n: usize) -> usize
 }
 
 // The first of the records from a on, below n, that is not at p; where there is none n, or a if that lies past n.
-#[tactic(auto, using(crate::proofs::PartLaws::firsts))]
+#[tactic(auto, using(counts::proofs::StepLaws::looking_on))]
 pub fn first_elsewhere(s: &[i16], p: Point, a: usize, n: usize) -> usize
     ensures { result ≡ first_from (off_corner p) (record_at s.now) a n }
 {
@@ -73,7 +73,7 @@ pub fn first_elsewhere(s: &[i16], p: Point, a: usize, n: usize) -> usize
 
 // Where the run of records whose dominating end is p lies. Where the array is ordered these are all of them; of any
 // other array it is the first run.
-#[tactic(auto, using(crate::proofs::PartLaws::first_high), unfolding(crate::specs::Parts::run_of))]
+#[tactic(auto, using(counts::proofs::StepLaws::first_high), unfolding(crate::specs::Parts::run_of))]
 pub fn run_of(s: &[i16], p: Point) -> Span
     ensures { result ≡ run_of s.now p }
 {
