@@ -2,82 +2,67 @@
 // at it, how many are counted for its mark. The array need be no chart. A segment is counted once, by its left half.
 #![tactic(auto)]
 
-ghost use Rattle.std.specs.Prelude.{◌≡◌};
-ghost use Rattle.counts.specs.Scan.{Found, Counted};
+ghost use Rattle.std.specs.Prelude.{◌≡◌, cond, Some, None};
+ghost use Rattle.counts.specs.Scan.{Found, first_place, any_place, count_places};
 ghost use Rattle.plane.specs.Points.{is_segment};
 ghost use Rattle.plane.specs.Touching.{touches};
 ghost use Rattle.plane.specs.Columns.{ends_at, counted_for};
+ghost use Rattle.record.specs.Order.{left};
 ghost use Rattle.record.specs.Records.{record_at, record_count, records};
-ghost use Rattle.segment.specs.Segments.{of_segment, is_record};
+ghost use Rattle.segment.specs.Segments.{segment, of_segment, is_record};
 ghost use Rattle.among.specs.Among.{has, has_segment, touched, end_count, counted_mark};
 
 use plane::{Point, Segment};
-use record::{Record, WIDTH, record_at};
+use record::{Record, record_at, record_count};
 
 // ---- a record
 
-#[tactic(auto, using(counts::proofs::StepLaws::looking))]
-fn first_same(s: &[i16], n: usize, e: Record) -> usize
-    ensures { Found (is_record e) (record_at s.now) 0 n result }
+fn first_same(s: &[i16], e: Record) -> Option<usize>
+    ensures { result ≡ first_place (is_record e) (record_at s.now) (record_count s.now) }
 {
-    let mut i = 0;
-    while i < n {
-        let r = record_at(s, i);
-        if segment::is_record(e, r) {
-            return i;
-        }
-        i += 1;
-    }
-    n
+    (0..record_count(s)).find(|&i| segment::is_record(e, record_at(s, i)))
 }
 
-// The place of the record, with its mark; the number of records where it is not there.
+// The place of the record, with its mark; the number of records where it is not there. No Option, since callers hold
+// what the clause `Found` says: a place, with its range, whether the record is there or not.
+#[tactic(auto, using(counts::proofs::PlaceLaws::first_place_found))]
 pub fn place_of(s: &[i16], e: Record) -> usize
     ensures { Found (is_record e) (record_at s.now) 0 (record_count s.now) result }
 {
-    let n = s.len() / WIDTH;
-    first_same(s, n, e)
+    first_same(s, e).unwrap_or(record_count(s))
 }
 
 // Whether the record is there, with its mark.
-#[tactic(auto, using(crate::proofs::AmongLaws::first_found))]
+#[tactic(auto, using(counts::proofs::PlaceLaws::any_first_place))]
 pub fn has_record(s: &[i16], e: Record) -> bool
     ensures { result ≡ has (records s.now) e }
 {
-    let n = s.len() / WIDTH;
-    first_same(s, n, e) < n
+    first_same(s, e).is_some()
 }
 
-// ---- a segment
+// ---- a segment, by its left half
 
+// Here and below a line for each test, and no function that is handed it: that one would have to ask, by a `requires`,
+// that the test may be called, and save no line.
 fn is_same_half(t: Segment, e: Record) -> bool
     ensures { result ≡ of_segment (is_segment t) e }
 {
-    record::is_left(e) && segment::is_segment(t, segment::segment_of(e))
+    segment::segment_of_left(e).is_some_and(|g| segment::is_segment(t, g))
 }
 
-#[tactic(auto, using(counts::proofs::StepLaws::looking))]
-fn first_same_half(s: &[i16], n: usize, t: Segment) -> usize
-    ensures { Found (of_segment (is_segment t)) (record_at s.now) 0 n result }
+// A function of its own: the check knows the chain by its own clause, and `any_place_is` what it says of all records.
+fn is_any_same(s: &[i16], t: Segment) -> bool
+    ensures { result ≡ any_place (of_segment (is_segment t)) (record_at s.now) (record_count s.now) }
 {
-    let mut i = 0;
-    while i < n {
-        let e = record_at(s, i);
-        if is_same_half(t, e) {
-            return i;
-        }
-        i += 1;
-    }
-    n
+    (0..record_count(s)).any(|i| is_same_half(t, record_at(s, i)))
 }
 
 // Whether the segment is there, whatever its mark.
-#[tactic(auto, using(crate::proofs::AmongLaws::first_found))]
+#[tactic(auto, using(counts::proofs::PlaceLaws::any_place_is))]
 pub fn has_segment(s: &[i16], t: Segment) -> bool
     ensures { result ≡ has_segment (records s.now) t }
 {
-    let n = s.len() / WIDTH;
-    first_same_half(s, n, t) < n
+    is_any_same(s, t)
 }
 
 // ---- a segment that touches
@@ -85,31 +70,21 @@ pub fn has_segment(s: &[i16], t: Segment) -> bool
 fn is_touching_half(t: Segment, e: Record) -> bool
     ensures { result ≡ of_segment (touches t) e }
 {
-    record::is_left(e) && segment::is_touching(t, segment::segment_of(e))
+    segment::segment_of_left(e).is_some_and(|g| segment::is_touching(t, g))
 }
 
-#[tactic(auto, using(counts::proofs::StepLaws::looking))]
-fn first_touching(s: &[i16], n: usize, t: Segment) -> usize
-    ensures { Found (of_segment (touches t)) (record_at s.now) 0 n result }
+fn is_any_touching(s: &[i16], t: Segment) -> bool
+    ensures { result ≡ any_place (of_segment (touches t)) (record_at s.now) (record_count s.now) }
 {
-    let mut i = 0;
-    while i < n {
-        let e = record_at(s, i);
-        if is_touching_half(t, e) {
-            return i;
-        }
-        i += 1;
-    }
-    n
+    (0..record_count(s)).any(|i| is_touching_half(t, record_at(s, i)))
 }
 
 // Whether a segment of the array touches this one.
-#[tactic(auto, using(crate::proofs::AmongLaws::first_found))]
+#[tactic(auto, using(counts::proofs::PlaceLaws::any_place_is))]
 pub fn is_touched(s: &[i16], t: Segment) -> bool
     ensures { result ≡ touched (records s.now) t }
 {
-    let n = s.len() / WIDTH;
-    first_touching(s, n, t) < n
+    is_any_touching(s, t)
 }
 
 // ---- ends at a point
@@ -117,30 +92,23 @@ pub fn is_touched(s: &[i16], t: Segment) -> bool
 fn is_ending_half(p: Point, e: Record) -> bool
     ensures { result ≡ of_segment (ends_at p) e }
 {
-    record::is_left(e) && segment::is_end(p, segment::segment_of(e))
+    segment::segment_of_left(e).is_some_and(|g| segment::is_end(p, g))
 }
 
-#[tactic(auto, using(counts::proofs::StepLaws::summing))]
-fn count_ends(s: &[i16], n: usize, p: Point) -> usize
-    ensures { Counted (of_segment (ends_at p)) (record_at s.now) n result }
+fn count_ends(s: &[i16], p: Point) -> usize
+    ensures { result ≡ count_places (of_segment (ends_at p)) (record_at s.now) (record_count s.now) }
 {
-    let mut i = 0;
-    let mut m = 0;
-    while i < n {
-        let e = record_at(s, i);
-        if is_ending_half(p, e) {
-            m += 1;
-        }
-        i += 1;
-    }
-    m
+    (0..record_count(s))
+        .filter(|&i| is_ending_half(p, record_at(s, i)))
+        .count()
 }
 
 // How many segments end at the point.
+#[tactic(auto, using(counts::proofs::PlaceLaws::count_places_is))]
 pub fn end_count(s: &[i16], p: Point) -> usize
     ensures { result ≡ end_count (records s.now) p }
 {
-    count_ends(s, s.len() / WIDTH, p)
+    count_ends(s, p)
 }
 
 // ---- the counted mark
@@ -148,31 +116,23 @@ pub fn end_count(s: &[i16], p: Point) -> usize
 fn is_counted_half(t: Segment, e: Record) -> bool
     ensures { result ≡ of_segment (counted_for t) e }
 {
-    record::is_left(e) && segment::is_counted_for(t, segment::segment_of(e))
+    segment::segment_of_left(e).is_some_and(|g| segment::is_counted_for(t, g))
 }
 
-#[tactic(auto, using(counts::proofs::StepLaws::summing))]
-fn count_for(s: &[i16], n: usize, t: Segment) -> usize
-    ensures { Counted (of_segment (counted_for t)) (record_at s.now) n result }
+fn count_for(s: &[i16], t: Segment) -> usize
+    ensures { result ≡ count_places (of_segment (counted_for t)) (record_at s.now) (record_count s.now) }
 {
-    let mut i = 0;
-    let mut m = 0;
-    while i < n {
-        let e = record_at(s, i);
-        if is_counted_half(t, e) {
-            m += 1;
-        }
-        i += 1;
-    }
-    m
+    (0..record_count(s))
+        .filter(|&i| is_counted_half(t, record_at(s, i)))
+        .count()
 }
 
 // The mark of a segment by document 01's count over the array's own segments.
-#[tactic(auto, unfolding(grid::specs::Coordinates::up))]
+#[tactic(auto, using(counts::proofs::PlaceLaws::count_places_is), unfolding(grid::specs::Coordinates::up))]
 pub fn counted_mark(s: &[i16], t: Segment) -> u16
     ensures { result ≡ counted_mark (records s.now) t }
 {
-    if count_for(s, s.len() / WIDTH, t) % 2 == 1 {
+    if count_for(s, t) % 2 == 1 {
         return record::MARKED;
     }
     record::UNMARKED

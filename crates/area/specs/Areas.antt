@@ -5,23 +5,17 @@
 --     share r         for a left half: the width of its segment times that sum, minus for mark 1. A vertical one has no
 --                     width, so it adds nothing. For a right half 0, so that each segment is taken once
 --     twice_area rs   over all records
---     area_refusal a  the paper's number and index for each case: 0 and 0 where it is answered
---     area_if v z     twice the area z, or the refusal that v gives
 --     area_of s       the same of an array of numbers: first its refusal, if it is no chart
 -- Assumes nothing.
-use Rattle.std.specs.Prelude.{cond, List, [], ◌∷◌, eqb, ℤ, pos, neg_ℤ, ◌+ℤ◌, ◌*ℤ◌}
+use Rattle.std.specs.Prelude.{cond, List, [], ◌∷◌, eqb, ℤ, pos, neg_ℤ, ◌+ℤ◌, ◌*ℤ◌, Result}
 use Rattle.plane.specs.Columns.{breadth}
 use Rattle.grid.specs.Coordinates.{down}
 use Rattle.record.specs.declared.Record.{Record}
 use Rattle.record.specs.Records.{records, marked}
 use Rattle.record.specs.Order.{left}
 use Rattle.segment.specs.Segments.{segment}
-use Rattle.chart.specs.declared.Refusal.{Refusal}
-use Rattle.chart.specs.declared.Verdict.{Verdict}
-use Rattle.chart.specs.declared.Verdict.TheVariants.{Accepted, Refused}
-use Rattle.chart.specs.Verdicts.{no_refusal, verdict}
-use Rattle.area.specs.declared.Area.{Area}
-use Rattle.area.specs.declared.Area.TheVariants as area
+use Rattle.chart.specs.declared.ChartRefusal.{ChartRefusal}
+use Rattle.chart.specs.Verdicts.{verdict, answered}
 
 unfoldable pub total : {A : Type 0} → (A → ℤ) → List A → ℤ
 total f [] = pos 0
@@ -38,13 +32,5 @@ share r =
 abbrev pub twice_area : List Record → ℤ
 twice_area rs = total share rs
 
-abbrev pub area_if : Verdict → ℤ → Area
-area_if Accepted z = area.Twice z
-area_if (Refused r) z = area.Refused r
-
-abbrev pub area_refusal : Area → Refusal
-area_refusal (area.Twice z) = no_refusal
-area_refusal (area.Refused r) = r
-
-unfoldable pub area_of : List ℤ → Area
-area_of s = area_if (verdict s) (twice_area (records s))
+unfoldable pub area_of : List ℤ → Result ℤ ChartRefusal
+area_of s = answered (verdict s) (twice_area (records s))

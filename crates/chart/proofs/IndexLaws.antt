@@ -10,45 +10,52 @@ use native.Mathlib.Omega.{arith}
 use lib.Dec.{ltb, eqb}
 use lib.IntN.{ℤ}
 use lib.ListN.{length}
-use borrow.Author.Tests.{ltb-true, ltb-false}
-use Rattle.record.specs.Records.{width, record_count}
+use borrow.Author.Tests.{ltb-false}
+use Rattle.std.specs.Prelude.{Option, Some, None, Err}
+use Rattle.counts.specs.Scan.{first_place}
+use Rattle.counts.proofs.PlaceLaws.{first_place_some}
+use Rattle.record.specs.Records.{width, record_at, record_count, records}
+use Rattle.chart.specs.declared.ChartRefusal.{ChartRefusal}
+use Rattle.chart.specs.declared.ChartRefusal.TheVariants.{Ragged, TooMany, EqualEnds, BadMark, NotAfter}
+use Rattle.chart.specs.declared.ChartRefusal.TheVariants.{NoOtherHalf, Touching, OddEnd, WrongMark}
 use Rattle.chart.specs.declared.Refusal.{Refusal}
-use Rattle.chart.specs.declared.Verdict.{Verdict}
-use Rattle.chart.specs.Verdicts.{limit, refused, refusal_of, firstly, judged, verdict}
+use Rattle.chart.specs.Rows.{equal_ends, bad_mark, not_after, no_other_half, touching, odd_end, wrong_mark}
+use Rattle.chart.specs.Verdicts.{limit, Verdict, told, refusal_of, unless, judged, verdict}
 
 pub record Told (r : Refusal) : Type 0 where
   pub number : r.number ≤ 9
   pub index : r.index < limit
 
-told : (k i : ℕ) → k ≤ 9 → i < limit → Told (record { number = k; index = i })
-told k i h l = record { number = h; index = l }
-
 -- one row of the table, and the rows after it
-firstly-told : (k i n : ℕ) (v : Verdict) → k ≤ 9 → n ≤ limit → Told (refusal_of v) → Told (refusal_of (firstly k i n v))
-firstly-told k i n v h few rest = go (ltb i n) refl
+row-told : {A : Type 0} (p : A → Bool) (f : ℕ → A) (n : ℕ) (why : ℕ → ChartRefusal) (v : Verdict)
+    → ((i : ℕ) → i < limit → Told (told (why i))) → n ≤ limit → Told (refusal_of v)
+    → Told (refusal_of (unless why (first_place p f n) v))
+row-told p f n why v each few rest = go (first_place p f n) refl
   where
-    go : (b : Bool) → ltb i n ≡ b → Told (refusal_of (cond b (refused k i) v))
-    go true e = told k i h (omega (arith, ltb-true i n e))
-    go false e = rest
+    go : (o : Option ℕ) → first_place p f n ≡ o → Told (refusal_of (unless why o v))
+    go None e = rest
+    go (Some i) e = each i (omega (arith, few, (first_place_some p f e).1))
 
 judged-told : (s : List ℤ) → record_count s ≤ limit → Told (refusal_of (judged s))
 unfolding judged
 judged-told s few =
     let n = record_count s in
-    firstly-told 3 _ n _ (omega arith) few
-    (firstly-told 4 _ n _ (omega arith) few
-    (firstly-told 5 _ n _ (omega arith) few
-    (firstly-told 6 _ n _ (omega arith) few
-    (firstly-told 7 _ n _ (omega arith) few
-    (firstly-told 8 _ n _ (omega arith) few
-    (firstly-told 9 _ n _ (omega arith) few (told 0 0 (omega arith) (omega arith))))))))
+    let rs = records s in
+    row-told equal_ends (record_at s) n EqualEnds _ (λ i l. record { number = omega arith; index = l }) few
+    (row-told bad_mark (record_at s) n BadMark _ (λ i l. record { number = omega arith; index = l }) few
+    (row-told (not_after s) (λ i. i) n NotAfter _ (λ i l. record { number = omega arith; index = l }) few
+    (row-told (no_other_half rs) (record_at s) n NoOtherHalf _ (λ i l. record { number = omega arith; index = l }) few
+    (row-told (touching rs) (record_at s) n Touching _ (λ i l. record { number = omega arith; index = l }) few
+    (row-told (odd_end rs) (record_at s) n OddEnd _ (λ i l. record { number = omega arith; index = l }) few
+    (row-told (wrong_mark rs) (record_at s) n WrongMark _ (λ i l. record { number = omega arith; index = l }) few
+    (record { number = omega arith; index = omega arith })))))))
 
 pub verdict-told : (s : List ℤ) → Told (refusal_of (verdict s))
 unfolding verdict
 verdict-told s = go (not (eqb (length s % width) 0)) (ltb limit (record_count s)) refl
   where
     go : (b c : Bool) → ltb limit (record_count s) ≡ c
-        → Told (refusal_of (cond b (refused 1 0) (cond c (refused 2 0) (judged s))))
-    go true c e = told 1 0 (omega arith) (omega arith)
-    go false true e = told 2 0 (omega arith) (omega arith)
+        → Told (refusal_of {A = Unit {0}} (cond b (Err Ragged) (cond c (Err TooMany) (judged s))))
+    go true c e = record { number = omega arith; index = omega arith }
+    go false true e = record { number = omega arith; index = omega arith }
     go false false e = judged-told s (ltb-false limit (record_count s) e)

@@ -1,18 +1,20 @@
 -- The verdict accepts exactly the regions: what the refusal table leaves is what specs/Regions.antt says.
---     accepted-is       both ways, for every array of numbers
---     accepted-sound    so the records of what a program found accepted are sound
+--     accepted-is         both ways, for every array of numbers
+--     accepted_ok, accepted_region, accepted_short    the same of an array of which only the test `accepted` is known
+--     answered-refusal    a question about a chart is refused as its verdict says
 -- Assumes nothing.
-use mathlib.Core.Path.{◌≡◌, sym, ◌∙◌}
+use mathlib.Core.Path.{◌≡◌, refl, sym}
 use mathlib.Core.Logic.{◌↔◌}
+use mathlib.Core.Bool.{true, true≢false}
 use mathlib.Core.List.{List}
+use Prim.Native.Nat.{◌≤◌}
 use lib.IntN.{ℤ}
+use Rattle.std.specs.Prelude.{Ok, Err}
 use Rattle.counts.specs.Count.{◌∈◌}
 use Rattle.record.specs.declared.Record.{Record}
-use Rattle.record.specs.Records.{records}
+use Rattle.record.specs.Records.{record_count, records}
 use Rattle.record.specs.Order.{other_half, Proper}
-use Rattle.chart.specs.declared.Verdict.{Verdict}
-use Rattle.chart.specs.declared.Verdict.TheVariants.{Accepted}
-use Rattle.chart.specs.Verdicts.{verdict}
+use Rattle.chart.specs.Verdicts.{limit, Verdict, refusal_of, verdict, is_accepted, accepted, answered}
 use Rattle.chart.specs.Regions.{Sound, Region}
 use Rattle.chart.proofs.RowLaws.{equal_ends-off, bad_mark-off, not_after-off, no_other_half-off, wrong_mark-off}
 use Rattle.chart.proofs.HalvesLaws.{touching-off, odd_end-off}
@@ -54,10 +56,24 @@ module _ (s : List ℤ) where
         counted = λ r m. (wrong_mark-off (records s) r).1 (sound.counted r m);
       }
 
-  pub accepted-is : (verdict s ≡ Accepted) ↔ Region s
+  pub accepted-is : (verdict s ≡ Ok tt) ↔ Region s
   accepted-is =
       let h = verdict-accepted s in
       ((λ e. faultless-region (h.0 e)), (λ g. h.1 (region-faultless g)))
 
-  pub accepted-sound : {v : Verdict} → v ≡ verdict s → v ≡ Accepted → Sound (records s)
-  accepted-sound h e = (accepted-is.0 (sym h ∙ e)).sound
+  pub accepted_ok : accepted s ≡ true → verdict s ≡ Ok tt
+  accepted_ok = go (verdict s)
+    where
+      go : (v : Verdict) → is_accepted v ≡ true → v ≡ Ok tt
+      go (Ok u) e = refl
+      go (Err r) e = absurd (true≢false (sym e))
+
+  pub accepted_region : accepted s ≡ true → Region s
+  accepted_region e = accepted-is.0 (accepted_ok e)
+
+  pub accepted_short : accepted s ≡ true → record_count s ≤ limit
+  accepted_short e = (accepted_region e).few
+
+pub answered-refusal : {A : Type 0} (v : Verdict) (a : A) → refusal_of (answered v a) ≡ refusal_of v
+answered-refusal (Ok u) a = refl
+answered-refusal (Err r) a = refl

@@ -12,7 +12,7 @@ use Prim.Native.Nat.{ℕ, zero, suc, ◌-◌, ◌<◌}
 use native.Mathlib.Omega.{arith}
 use lib.Dec.{eqb}
 use lib.IntN.{ℤ}
-use borrow.Author.Tests.{eqb-true, eq-eqb, not-false}
+use borrow.Author.Tests.{eqb-true, eq-eqb, lt-ltb, not-false}
 use Rattle.counts.specs.Count.{◌∈◌}
 use Rattle.counts.proofs.TestLaws.{is_false}
 use Rattle.counts.proofs.HighestLaws.{any-member}
@@ -25,7 +25,6 @@ use Rattle.segment.specs.Segments.{segment, is_record}
 use Rattle.segment.proofs.SegmentLaws.{is_record-true, is_record-refl}
 use Rattle.among.specs.Among.{counted_mark}
 use Rattle.chart.specs.Rows.{equal_ends, bad_mark, not_after, no_other_half, wrong_mark}
-use Rattle.chart.proofs.CaseLaws.{not_after-later}
 
 pub equal_ends-off : (r : Record) → (equal_ends r ≡ false) ↔ (r.dom ≡ r.other → ⊥)
 equal_ends-off r = (
@@ -50,10 +49,11 @@ bad_mark-off r = (there (eqb r.mark unmarked) (eqb r.mark marked) refl refl, bac
         table true = refl
         table false = refl
 
+-- row 5 at a record that is not the first
 not_after-suc : (s : List ℤ) (i : ℕ) → not_after s (suc i) ≡ not (precedes (record_at s i) (record_at s (suc i)))
 not_after-suc s i =
-    let e : i ≡ suc i - 1 = omega arith in
-    sym (not_after-later s (suc i) (λ z. absurd (omega arith)) (ap (record_at s) e) refl refl)
+    let e : suc i - 1 ≡ i = omega arith in
+    rw (lt-ltb 0 (suc i) (omega arith)) (ap (λ j. not (precedes (record_at s j) (record_at s (suc i)))) e)
 
 pub not_after-off : (s : List ℤ)
     → ((i : ℕ) → i < record_count s → not_after s i ≡ false)

@@ -8,20 +8,20 @@ use mathlib.Core.Logic.{◌↔◌}
 use mathlib.Core.Bool.{Bool, true, false, cond, true≢false}
 use mathlib.Core.List.{List}
 use Prim.Native.Nat.{ℕ, ◌%◌, ◌<◌, ◌≤◌, zero-le}
-use lib.Dec.{ltb}
 use lib.IntN.{ℤ}
 use lib.ListN.{length}
 use borrow.Author.Tests.{eqb-true, eq-eqb, ltb-false, le-ltb, not-false}
 use Rattle.counts.specs.Count.{◌∈◌}
-use Rattle.counts.specs.Scan.{first_from}
+use Rattle.std.specs.Prelude.{Option, Some, None, Ok, Err}
+use Rattle.counts.specs.Scan.{first_place}
 use Rattle.counts.proofs.HighestLaws.{any_none}
 use Rattle.counts.proofs.ScanLaws.{first_from-none, any-first}
+use Rattle.counts.proofs.PlaceLaws.{first_place_none}
 use Rattle.record.specs.declared.Record.{Record}
 use Rattle.record.specs.Records.{width, record_at, record_count, records}
-use Rattle.chart.specs.declared.Verdict.{Verdict}
-use Rattle.chart.specs.declared.Verdict.TheVariants.{Accepted}
+use Rattle.chart.specs.declared.ChartRefusal.{ChartRefusal}
 use Rattle.chart.specs.Rows.{equal_ends, bad_mark, not_after, no_other_half, touching, odd_end, wrong_mark}
-use Rattle.chart.specs.Verdicts.{limit, refused, judged, verdict, is_accepted}
+use Rattle.chart.specs.Verdicts.{limit, Verdict, unless, judged, verdict, is_accepted}
 
 pub record Faultless (s : List ℤ) : Type 0 where
   pub whole : length s % width ≡ 0
@@ -35,37 +35,44 @@ pub record Faultless (s : List ℤ) : Type 0 where
   pub counted : (r : Record) → r ∈ records s → wrong_mark (records s) r ≡ false
 
 -- a row that finds something refuses; so where the verdict accepts it found nothing, and the rows after it accept
-row : (b : Bool) (k i : ℕ) (v : Verdict) → cond b (refused k i) v ≡ Accepted → (b ≡ false) × (v ≡ Accepted)
-row true k i v e = absurd (true≢false (sym (ap is_accepted e)))
-row false k i v e = (refl, e)
+size : (b : Bool) (r : ChartRefusal) (v : Verdict) → cond b (Err r) v ≡ Ok tt → (b ≡ false) × (v ≡ Ok tt)
+size true r v e = absurd (true≢false (sym (ap is_accepted e)))
+size false r v e = (refl, e)
 
-pub verdict-accepted : (s : List ℤ) → (verdict s ≡ Accepted) ↔ Faultless s
+row : (why : ℕ → ChartRefusal) (o : Option ℕ) (v : Verdict) → unless why o v ≡ Ok tt → (o ≡ None) × (v ≡ Ok tt)
+row why None v e = (refl, e)
+row why (Some i) v e = absurd (true≢false (sym (ap is_accepted e)))
+
+pub verdict-accepted : (s : List ℤ) → (verdict s ≡ Ok tt) ↔ Faultless s
 unfolding verdict judged
 verdict-accepted s = (there, back)
   where
     none : (p : Record → Bool)
-        → (ltb (first_from p (record_at s) 0 (record_count s)) (record_count s) ≡ false)
-        ↔ ((r : Record) → r ∈ records s → p r ≡ false)
+        → (first_place p (record_at s) (record_count s) ≡ None) ↔ ((r : Record) → r ∈ records s → p r ≡ false)
     none p =
         let e = any-first p (record_at s) (record_count s) in
         let h = any_none p (records s) in
-        ((λ f. h.0 (e ∙ f)), (λ f. sym e ∙ h.1 f))
+        let g = first_place_none p (record_at s) (record_count s) in
+        ((λ f. h.0 (e ∙ g.0 f)), (λ f. g.1 (sym e ∙ h.1 f)))
 
-    placed : (ltb (first_from (not_after s) (λ i. i) 0 (record_count s)) (record_count s) ≡ false)
+    placed : (first_place (not_after s) (λ i. i) (record_count s) ≡ None)
         ↔ ((i : ℕ) → 0 ≤ i → i < record_count s → not_after s i ≡ false)
-    placed = first_from-none (not_after s) (λ i. i) 0 (record_count s) zero-le
+    placed =
+        let g = first_place_none (not_after s) (λ i. i) (record_count s) in
+        let h = first_from-none (not_after s) (λ i. i) 0 (record_count s) zero-le in
+        ((λ e. h.0 (g.0 e)), (λ f. g.1 (h.1 f)))
 
-    there : verdict s ≡ Accepted → Faultless s
+    there : verdict s ≡ Ok tt → Faultless s
     there e =
-        let whole = row _ _ _ _ e in
-        let few = row _ _ _ _ whole.1 in
-        let ends = row _ _ _ _ few.1 in
-        let marks = row _ _ _ _ ends.1 in
-        let order = row _ _ _ _ marks.1 in
-        let halves = row _ _ _ _ order.1 in
-        let apart = row _ _ _ _ halves.1 in
-        let even = row _ _ _ _ apart.1 in
-        let counted = row _ _ _ _ even.1 in
+        let whole = size _ _ _ e in
+        let few = size _ _ _ whole.1 in
+        let ends = row _ _ _ few.1 in
+        let marks = row _ _ _ ends.1 in
+        let order = row _ _ _ marks.1 in
+        let halves = row _ _ _ order.1 in
+        let apart = row _ _ _ halves.1 in
+        let even = row _ _ _ apart.1 in
+        let counted = row _ _ _ even.1 in
         record {
           whole = eqb-true _ _ (not-false _ whole.0);
           few = ltb-false limit (record_count s) few.0;
@@ -78,7 +85,7 @@ verdict-accepted s = (there, back)
           counted = (none (wrong_mark (records s))).0 counted.0;
         }
 
-    back : Faultless s → verdict s ≡ Accepted
+    back : Faultless s → verdict s ≡ Ok tt
     back f =
         rw (
           eq-eqb (length s % width) 0 f.whole,

@@ -7,121 +7,71 @@
 // `report-buffered` (proofs/ReportLaws.antt).
 #![tactic(auto)]
 
-ghost use Rattle.std.specs.Prelude.{◌≡◌, ◌-◌, ◌≤◌};
-ghost use Rattle.record.specs.Records.{record_count};
-ghost use Rattle.area.specs.Areas.{area_of};
-ghost use Rattle.chartcheck.specs.Reports.{report, area_report, chart_report};
+ghost use Rattle.std.specs.Prelude.{◌≡◌};
+ghost use Rattle.chartcheck.specs.Reports.{report, chart_report};
 
-use area::Area;
 use chart::Refusal;
-use faces::FaceList;
-use file::Answer;
 use record::WIDTH;
+use std::fmt;
 
-// What the line says.
+// What the line says of a sound chart.
 #[derive(Clone, Copy)]
-enum Report {
-    Sound {
-        records: usize,
-        faces: usize,
-        holes: usize,
-        area2: i64,
-    },
-    Refused(Refusal),
+struct Report {
+    records: usize,
+    faces: usize,
+    holes: usize,
+    area2: i64,
 }
 
-fn main() {
-    let mut bytes = [0u8; 8192];
-    let n = io::read_full(0, &mut bytes);
-    say_report(report_on(&bytes[..n]));
-}
-
-// ---- what is said
-
-// Of a chart of so many cycles and faces: each face has one outer cycle, the other cycles are holes.
-fn report_with(chart: &[i16], cycles: usize, faces: usize) -> Report
-    requires { faces ≤ cycles }
-    ensures { result ≡ area_report (record_count chart.now) faces (cycles - faces) (area_of chart.now) }
-{
-    let a = area::area2(chart);
-    match a {
-        Area::Twice(z) => Report::Sound {
-            records: chart.len() / WIDTH,
-            faces,
-            holes: cycles - faces,
-            area2: z,
-        },
-        Area::Refused(r) => Report::Refused(r),
-    }
-}
-
-// What a chart is said to be. The arrays have room for as many records and cycles as a chart can have.
-fn report_of(chart: &[i16]) -> Report
-    ensures { result ≡ chart_report chart.now }
-{
-    let mut labels = [0u16; 512];
-    let mut list = [0u16; 512];
-    let a = faces::faces(chart, &mut labels, &mut list);
-    match a {
-        FaceList::Listed { cycles, faces } => report_with(chart, cycles, faces),
-        FaceList::Refused(r) => Report::Refused(r),
-    }
-}
-
-// What a file is said to be. The array has room for the most records that a file can have.
-fn report_on(bytes: &[u8]) -> Report
-    ensures { result ≡ report bytes.now }
-{
-    let mut lent = [0i16; 2560];
-    let a = file::read(bytes, &mut lent);
-    match a {
-        Answer::Records(n) => {
-            let end = WIDTH * n;
-            report_of(&lent[0..end])
-        }
-        Answer::Refused(r) => Report::Refused(r),
-    }
-}
-
-// ---- saying it
-
-fn say_report(r: Report) {
-    match r {
-        Report::Sound {
+impl fmt::Display for Report {
+    fn fmt<W: fmt::Write>(&self, f: &mut fmt::Formatter<W>) -> fmt::Result {
+        let Report {
             records,
             faces,
             holes,
             area2,
-        } => say_sound(records, faces, holes, area2),
-        Report::Refused(f) => say_refusal(f),
+        } = self;
+        write!(
+            f,
+            "sound records {records} faces {faces} holes {holes} area2 {area2}"
+        )
     }
 }
 
-fn say_sound(records: usize, faces: usize, holes: usize, area2: i64) {
-    io::write_all(1, b"sound records ");
-    io::print_decimal(1, records as u64);
-    io::write_all(1, b" faces ");
-    io::print_decimal(1, faces as u64);
-    io::write_all(1, b" holes ");
-    io::print_decimal(1, holes as u64);
-    io::write_all(1, b" area2 ");
-    say_signed(area2);
-    io::write_all(1, b"\n");
+// A line that standard output does not take is lost, and the program ends with status 0 as ever.
+fn main(rt: HostRuntime) {
+    let mut bytes = [0u8; 8192];
+    let n = io::read_full(0, &mut bytes);
+    let _ = match report_on(&bytes[..n]) {
+        Ok(report) => println!(rt; "{report}"),
+        Err(Refusal { number, index }) => println!(rt; "refused {number} at {index}"),
+    };
 }
 
-fn say_refusal(r: Refusal) {
-    io::write_all(1, b"refused ");
-    io::print_decimal(1, r.number as u64);
-    io::write_all(1, b" at ");
-    io::print_decimal(1, r.index as u64);
-    io::write_all(1, b"\n");
+// What a chart is said to be: each face has one outer cycle, the other cycles are holes. The arrays have room for as
+// many records and cycles as a chart can have.
+#[tactic(auto, using(crate::proofs::ReportLaws::area_refused, crate::proofs::ReportLaws::chart_refused))]
+fn report_of(chart: &[i16]) -> Result<Report, Refusal>
+    ensures { result ≡ chart_report chart.now }
+{
+    let mut labels = [0u16; 512];
+    let mut list = [0u16; 512];
+    let counts = faces::faces(chart, &mut labels, &mut list)?;
+    let area2 = area::area2(chart)?;
+    Ok(Report {
+        records: record::record_count(chart),
+        faces: counts.faces,
+        holes: counts.cycles - counts.faces,
+        area2,
+    })
 }
 
-fn say_signed(z: i64) {
-    if z < 0 {
-        io::write_all(1, b"-");
-        io::print_decimal(1, (-(z + 1)) as u64 + 1);
-        return;
-    }
-    io::print_decimal(1, z as u64);
+// What a file is said to be. The array has room for the most records that a file can have.
+#[tactic(auto, using(crate::proofs::ReportLaws::file_refused))]
+fn report_on(bytes: &[u8]) -> Result<Report, Refusal>
+    ensures { result ≡ report bytes.now }
+{
+    let mut lent = [0i16; 2560];
+    let n = file::read(bytes, &mut lent)?;
+    report_of(&lent[..WIDTH * n])
 }

@@ -21,13 +21,14 @@ use Rattle.plane.specs.Columns.{holds, below_point}
 use Rattle.plane.proofs.ScaleLaws.{unit, unit-scale}
 use Rattle.record.specs.declared.Record.{Record}
 use Rattle.record.specs.Records.{records}
-use Rattle.chart.specs.Verdicts.{limit}
+use Rattle.std.specs.Prelude.{Ok}
+use Rattle.chart.specs.Verdicts.{limit, answered}
 use Rattle.chart.specs.Regions.{Region}
 use Rattle.chart.proofs.RegionLaws.{accepted-is}
 use Rattle.region.specs.Boundaries.{held, below}
 use Rattle.region.proofs.ChartLaws.{segments, of_segment-any}
 use Rattle.question.specs.declared.Place.TheVariants.{Inside, Outside}
-use Rattle.question.specs.Places.{is_inside, place_by, place_of, place_if, placed}
+use Rattle.question.specs.Places.{is_inside, place_by, place_of, placed}
 use Rattle.combined.specs.Kept.{keeps, either}
 use Rattle.combined.specs.Results.{result, numbers}
 use Rattle.combined.specs.Together.{Together}
@@ -39,11 +40,11 @@ use Rattle.combined.proofs.SoundLaws.{result-region}
 
 -- where a point off its boundary lies to a region
 off-place : (s : List ℤ) (p : Point) → Region s → held (records s) p ≡ false
-    → placed s p ≡ cond (odd (below (records s) p)) Inside Outside
+    → placed s p ≡ Ok (cond (odd (below (records s) p)) Inside Outside)
 unfolding placed place_of
 off-place s p region off =
-    ap (λ v. place_if v (place_of (records s) p)) ((accepted-is s).1 region)
-    ∙ ap (λ e. place_by e (odd (below (records s) p))) off
+    ap (λ v. answered v (place_of (records s) p)) ((accepted-is s).1 region)
+    ∙ ap (λ e. Ok (place_by e (odd (below (records s) p)))) off
 
 module _ {ss : List (List ℤ)} (together : Together ss) (f : List Bool → Bool)
     (none : f (map (λ c. false) (map records ss)) ≡ false) (p : Point) where
@@ -66,14 +67,14 @@ module _ {ss : List (List ℤ)} (together : Together ss) (f : List Bool → Bool
       ∙ kept-below (unit over.0) (unit-scale over.0) over.1 f none p
 
   pub result-place : ((s : List ℤ) → s ∈ ss → held (records s) p ≡ false) → length (result f cs) ≤ limit
-      → placed (numbers (result f cs)) p ≡ cond (f (map (λ s. is_inside (placed s p)) ss)) Inside Outside
+      → placed (numbers (result f cs)) p ≡ Ok (cond (f (map (λ s. is_inside (placed s p)) ss)) Inside Outside)
   result-place off few =
       off-place (numbers (result f cs)) p (result-region together f none few)
       (ap (λ rs. held rs p) (records-numbers (result f cs)) ∙ result-held off)
-      ∙ ap (λ b. cond b Inside Outside)
+      ∙ ap (λ b. Ok (cond b Inside Outside))
       (ap (λ rs. odd (below rs p)) (records-numbers (result f cs)) ∙ result-below ∙ ap f answers)
     where
-      by-parity : (b : Bool) → b ≡ is_inside (cond b Inside Outside)
+      by-parity : (b : Bool) → b ≡ is_inside (Ok (cond b Inside Outside))
       by-parity true = refl
       by-parity false = refl
 

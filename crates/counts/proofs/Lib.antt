@@ -21,3 +21,4 @@ pub mod RepeatLaws
 pub mod ShareLaws
 pub mod TurnsLaws
 pub mod CountedPlaceLaws
+pub mod PlaceLaws

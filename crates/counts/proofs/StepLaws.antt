@@ -1,9 +1,9 @@
 -- The steps of a loop that looks for the first, counts or sums, in the form that a function's tactic line finds: what a
 -- law concludes shows all that it speaks of.
 --     first_hit, first_more      looking for the first
---     first_on, first_high       looking on from a place: what is passed over is not the first; the first is at most n
+--     first_high                 the first is at most n
 --     sum_none                   summing and counting, with `sum_more` of LoopLaws.antt
---     looking, looking_on, summing    for a function's tactic line: what closes such a loop
+--     looking, summing    for a function's tactic line: what closes such a loop
 -- Assumes nothing.
 use Rattle.std.specs.Prelude.{◌≡◌, Bool, true, false, ℕ, ◌+◌, ◌<◌, ◌≤◌}
 use mathlib.Core.Path.{refl, sym, ap, ◌∙◌}
@@ -22,10 +22,6 @@ module _ {A : Type 0} (p : A → Bool) (f : ℕ → A) {a n i : ℕ} where
   first_more s l t = seen_more p f s l refl t
 
 module _ {A : Type 0} (p : A → Bool) (f : ℕ → A) where
-  pub first_on : {n i : ℕ} {b : Bool} → i < n → b ≡ p (f i) → b ≡ false → first_from p f (i + 1) n ≡ first_from p f i n
-  first_on {n} {i} l e t =
-      ap (λ j. first_from p f j n) (add-one i) ∙ sym (first_from-miss p f i n l (sym e ∙ t))
-
   pub first_high : {a n : ℕ} → a < n → first_from p f a n ≤ n
   first_high {a} {n} l = first_from-high p f a n (omega arith)
 
@@ -34,7 +30,5 @@ unfolding sum listed
 sum_none v f = refl
 
 pub ruleset looking = (seen_none, first_hit, first_more, seen_all)
-
-pub ruleset looking_on = (first_from-end, first_from-hit, first_on)
 
 pub ruleset summing = (sum_none, sum_more)

@@ -8,7 +8,6 @@ pub mod OnwardLaws
 pub mod Cutting
 pub mod CuttingLaws
 pub mod CircleLaws
-pub mod FromLaws
 pub mod WalkingLaws
 pub mod AnswerLaws
 pub mod Sets

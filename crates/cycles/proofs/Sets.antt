@@ -1,32 +1,30 @@
 -- What the functions' tactic lines name.
---     turning, onward     clockwise_from, next_of: the way on from a record
---     halving, naming     first_half, name_all: the steps of their loops over a stretch
---     cuts, freed         cut_at, cut_from: by whether there is anything to cut
---     walking, filling    cut_walks, fill: the steps of their loops
---     answering           cycles_of: by the chart's verdict
+--     halves              way_back: the other half is there
+--     turning             clockwise_from: past the corner
+--     halving, naming     first_half, name_all: the steps of their loops over a cycle
+--     cuts                cut_at: the places of the cycle
+--     walking             cut_walks: the steps of its loop
+--     answering           arrays_of: from no start on to all
 -- Assumes nothing.
-use Rattle.cycles.proofs.AnswerLaws.{accepted-few, accepted-region, answer-accepted, answer-refused, unset-filled}
-use Rattle.cycles.proofs.CutLaws.{cut-here, cut-nowhere}
-use Rattle.cycles.proofs.FromLaws.{from-arrives, from-set, from-walk}
-use Rattle.cycles.proofs.HalfLaws.{halving-all, halving-more, halving-none, stretch-known}
+use Rattle.counts.proofs.ReadLaws.{found_from}
+use Rattle.walks.proofs.PlaceLaws.{back-less}
+use Rattle.cycles.proofs.AnswerLaws.{arrays-cut, unset-filled}
+use Rattle.cycles.proofs.CutLaws.{places-after, visit-within}
+use Rattle.cycles.proofs.HalfLaws.{half_end, half_next, place_known}
 use Rattle.cycles.proofs.WalkingLaws.{walking-all, walking-next, walking-none}
-use Rattle.cycles.proofs.WayLaws.{clockwise-before, clockwise-last, next-found, past-some}
-use Rattle.cycles.proofs.WriteLaws.{filling-all, filling-more, filling-none, naming-all, naming-more, naming-none}
+use Rattle.cycles.proofs.WayLaws.{past_some}
+use Rattle.cycles.proofs.WriteLaws.{name_end, name_next}
 
-pub ruleset turning = (past-some, clockwise-last, clockwise-before)
+pub ruleset halves = (back-less)
 
-pub ruleset onward = (next-found)
+pub ruleset turning = (found_from, past_some)
 
-pub ruleset halving = (stretch-known, halving-none, halving-more, halving-all)
+pub ruleset halving = (place_known, half_next, half_end)
 
-pub ruleset naming = (stretch-known, naming-none, naming-more, naming-all)
+pub ruleset naming = (place_known, name_next, name_end)
 
-pub ruleset cuts = (cut-here, cut-nowhere)
-
-pub ruleset freed = (from-walk, from-set, from-arrives)
+pub ruleset cuts = (visit-within, places-after)
 
 pub ruleset walking = (walking-none, walking-next, walking-all)
 
-pub ruleset filling = (filling-none, filling-more, filling-all)
-
-pub ruleset answering = (accepted-region, accepted-few, unset-filled, answer-accepted, answer-refused)
+pub ruleset answering = (unset-filled, arrays-cut)

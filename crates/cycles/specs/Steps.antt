@@ -1,15 +1,14 @@
 -- What the functions inside find on the way: devices that their contracts cite. s is the chart, n its records.
 --     PlaceOf s v i           i is v, and the place of a record
---     Stretch s rest k m      the numbers of `rest` from place k on, below m, are places of records
---     lesser i j              the lesser of two
+--     Places s js             the numbers js are places of records
 --     first_half s f js       the least of f, of js, and of the other halves of js
 --     name_record s v j to    `to` with the number v at both halves of record j
 --     name_all s v js to      the same at both halves of each of js
 --     name_first s c to       the same with the first record of the cycle c; as it was where c is empty
 --     firsts_of s cs to       the same for each of the cycles cs
 --     starts_of s w cs to     `to` with the number w at both halves of each record of cs
---     CutTo s p w rest m ..   the walk came to p, and k of the m records of `rest` are left: what is gone is a cycle of
---                             the walk that started at w
+--     CutTo s p w rest ..     the walk came to p, and of the records `rest` those before the first that departs from p
+--                             are left: what is gone is a cycle of the walk that started at w
 --     CutWalk s w ..          the whole walk from w was cut
 --     is_free s i starts      record i departs and has no start yet: n stands for none
 --     CutFrom s i ..          the walk from record i was cut where it is free, else all is as it was
@@ -17,7 +16,8 @@
 --     CutWalks s ..           all walks were cut: each record has its start and the first record of its cycle, and what
 --                             stands behind the records is as it was
 -- Assumes nothing.
-use Rattle.std.specs.Prelude.{◌≡◌, Bool, cond, ◌&&◌, List, [], ◌∷◌, ℕ, ◌≤◌, ◌<◌, ltb, eqb, ℤ, length, get_or, take, drop, set}
+use Rattle.std.specs.Prelude.{◌≡◌, Bool, cond, ◌&&◌, ℕ, ◌≤◌, ◌<◌, eqb, min, ℤ}
+use Rattle.std.specs.Prelude.{List, [], ◌∷◌, length, get_or, take, drop, set}
 use Rattle.counts.specs.Count.{first_index}
 use Rattle.plane.specs.declared.Point.{Point}
 use Rattle.record.specs.Records.{record_at, record_count}
@@ -30,19 +30,14 @@ pub record PlaceOf (s : List ℤ) (v i : ℕ) : Type 0 where
   pub is : i ≡ v
   pub less : i < record_count s
 
-pub record Stretch (s : List ℤ) (rest : List ℕ) (k m : ℕ) : Type 0 where
-  pub ordered : k ≤ m
-  pub room : m ≤ length rest
-  pub known : (t : ℕ) → t < m → get_or rest t 0 < record_count s
+pub record Places (s : List ℤ) (js : List ℕ) : Type 0 where
+  pub known : (t : ℕ) → t < length js → get_or js t 0 < record_count s
 
 -- ---- the first record of a cycle
 
-abbrev pub lesser : ℕ → ℕ → ℕ
-lesser i j = cond (ltb j i) j i
-
 unfoldable pub first_half : List ℤ → ℕ → List ℕ → ℕ
 first_half s f [] = f
-first_half s f (j ∷ js) = first_half s (lesser (lesser f j) (way_back s j)) js
+first_half s f (j ∷ js) = first_half s (min (min f j) (way_back s j)) js
 
 -- ---- what is written
 
@@ -67,12 +62,10 @@ starts_of s w (c ∷ cs) to = starts_of s w cs (name_all s w c to)
 
 -- ---- cutting
 
-pub record CutTo (s : List ℤ) (p : Point) (w : ℕ) (rest : List ℕ) (m : ℕ) (starts firsts : List ℕ) (k : ℕ)
-    (starts' firsts' : List ℕ) : Type 0 where
-  pub left : k ≡ first_index (from s p) (take m rest)
-  pub most : k ≤ m
-  pub begun : starts' ≡ name_all s w (drop k (take m rest)) starts
-  pub named : firsts' ≡ name_first s (drop k (take m rest)) firsts
+pub record CutTo (s : List ℤ) (p : Point) (w : ℕ) (rest starts firsts rest' starts' firsts' : List ℕ) : Type 0 where
+  pub left : rest' ≡ take (first_index (from s p) rest) rest
+  pub begun : starts' ≡ name_all s w (drop (first_index (from s p) rest) rest) starts
+  pub named : firsts' ≡ name_first s (drop (first_index (from s p) rest) rest) firsts
 
 pub record CutWalk (s : List ℤ) (w : ℕ) (starts firsts starts' firsts' : List ℕ) : Type 0 where
   pub begun : starts' ≡ starts_of s w (cycles_of s w) starts

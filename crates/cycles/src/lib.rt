@@ -2,30 +2,48 @@
 // and a cycle are: the crate walks.
 #![tactic(auto)]
 
-ghost use Rattle.std.specs.Prelude.{◌≡◌, ◌≤◌, ◌<◌, length, get_or, take, drop, ◌++◌};
-ghost use Rattle.counts.specs.Count.{listed};
-ghost use Rattle.counts.specs.Scan.{Found};
-ghost use Rattle.record.specs.Records.{record_count};
+ghost use Rattle.std.specs.Prelude.{◌≡◌, ◌≤◌, ◌<◌, length, drop, replicate, ◌++◌};
+ghost use Rattle.std.specs.List.{position};
+ghost use Rattle.record.specs.Records.{record_at, record_count};
+ghost use Rattle.chart.specs.Verdicts.{limit};
 ghost use Rattle.chart.specs.Regions.{Region};
 ghost use Rattle.around.specs.Departing.{departs};
 ghost use Rattle.walks.specs.Ways.{way_back, first_here, clockwise, next};
 ghost use Rattle.walks.specs.Walks.{from};
-ghost use Rattle.cycles.specs.Circles.{Circled};
-ghost use Rattle.cycles.specs.Steps.{PlaceOf, Stretch, lesser, first_half, name_record, name_all};
+ghost use Rattle.cycles.specs.Circles.{arrays_of, Circled};
+ghost use Rattle.cycles.specs.Steps.{PlaceOf, Places, first_half, name_record, name_all};
 ghost use Rattle.cycles.specs.Steps.{CutTo, CutWalk, CutFrom, Unset, CutWalks};
 
-use chart::{Verdict, check};
+use arrayvec::ArrayVec;
+use chart::{Chart, ChartRefusal, LIMIT};
 use parts::{first_elsewhere, is_elsewhere};
 use plane::Point;
-use record::{MARKED, Record, WIDTH, is_left, other_half, record_at};
+use record::{MARKED, Record, is_left, other_half, record_at, record_count};
 
-// What the walks of a chart come to: whether it is a chart at all, and for each of its records where its walk starts,
-// which is the least of those that are walked, and the first record of its cycle.
-#[derive(Clone, Copy)]
+// What the walks of a chart come to: for each of its records where its walk starts, which is the least of those that
+// are walked, and the first record of its cycle. Two arrays, not one of pairs: `name_all` writes either by the same
+// steps.
+#[derive(Clone, Copy, Debug, PartialEq, Eq)]
 pub struct Cycles {
-    pub verdict: Verdict,
-    pub starts: [usize; 512],
-    pub firsts: [usize; 512],
+    pub starts: [usize; LIMIT],
+    pub firsts: [usize; LIMIT],
+}
+
+// ---- a chart's records: both answers say besides, by `region`, what the laws of walks ask of the chart
+
+fn count_of(s: &Chart) -> usize
+    ensures value { result ≡ record_count s.now }
+    ensures few { result ≤ limit }
+    ensures region { Region s.now }
+{
+    record_count(s.numbers())
+}
+
+fn record_of(s: &Chart, i: usize) -> Record
+    ensures value { result ≡ record_at s.now i }
+    ensures region { Region s.now }
+{
+    record_at(s.numbers(), i)
 }
 
 // ---- the way
@@ -35,114 +53,79 @@ pub struct Cycles {
 fn is_departing(r: Record) -> bool
     ensures { result ≡ departs r }
 {
-    if r.mark == MARKED {
-        return is_left(r);
-    }
-    !is_left(r)
+    (r.mark == MARKED) == is_left(r)
 }
 
-// The other half of record i.
-#[tactic(auto, using(crate::proofs::WayLaws::back_found))]
-fn way_back(s: &[i16], i: usize) -> usize
-    requires { Region s.now × (i < record_count s.now) }
-    ensures { PlaceOf s.now (way_back s.now i) result }
+// The other half of record i. By `few` a record's number is a place of the arrays of Cycles.
+#[tactic(auto, using(crate::proofs::Sets::halves), unfolding(walks::specs::Ways::way_back))]
+fn way_back(s: &Chart, i: usize) -> usize
+    requires { i < record_count s.now }
+    ensures place { PlaceOf s.now (way_back s.now i) result }
+    ensures few { record_count s.now ≤ limit }
 {
-    let r = record_at(s, i);
-    among::place_of(s, other_half(r))
+    among::place_of(s.numbers(), other_half(record_of(s, i)))
 }
 
 // Whether no record at its corner comes before record j.
 fn is_first_here(s: &[i16], j: usize) -> bool
     ensures { result ≡ first_here s.now j }
 {
-    if j == 0 {
-        return true;
-    }
-    let r = record_at(s, j);
-    is_elsewhere(s, r.dom, j - 1)
+    j == 0 || is_elsewhere(s, record_at(s, j).dom, j - 1)
 }
 
 // Turning clockwise from record j around its corner, the first record met.
-#[tactic(auto, using(counts::proofs::ReadLaws::found_from, crate::proofs::Sets::turning))]
+#[tactic(auto, using(crate::proofs::Sets::turning), unfolding(walks::specs::Ways::clockwise))]
 fn clockwise_from(s: &[i16], j: usize) -> usize
     requires { j < record_count s.now }
     ensures { PlaceOf s.now (clockwise s.now j) result }
 {
     if is_first_here(s, j) {
-        let n = s.len() / WIDTH;
-        let r = record_at(s, j);
-        let past = first_elsewhere(s, r.dom, j, n);
+        let past = first_elsewhere(s, record_at(s, j).dom, j, record_count(s));
         return past - 1;
     }
     j - 1
 }
 
 // Which record is walked after record i.
-#[tactic(auto, using(crate::proofs::Sets::onward))]
-fn next_of(s: &[i16], i: usize) -> usize
-    requires { Region s.now × (i < record_count s.now) }
+fn next_of(s: &Chart, i: usize) -> usize
+    requires { i < record_count s.now }
     ensures { PlaceOf s.now (next s.now i) result }
 {
-    let j = way_back(s, i);
-    clockwise_from(s, j)
+    clockwise_from(s.numbers(), way_back(s, i))
 }
 
 // ---- the cut
 
 // Whether record j departs from p.
-fn is_from(s: &[i16], p: Point, j: usize) -> bool
+fn is_from(s: &Chart, p: Point, j: usize) -> bool
     ensures { result ≡ from s.now p j }
 {
-    let r = record_at(s, j);
-    points::is_same(r.dom, p)
+    record_of(s, j).dom == p
 }
 
-// The place, among the m records that are left of a walk, of the one that departs from p; m where there is none.
-#[tactic(auto, using(counts::proofs::StepLaws::looking))]
-fn visit_of(s: &[i16], p: Point, rest: &[usize], m: usize) -> usize
-    requires { Stretch s.now rest.now 0 m }
-    ensures { Found (from s.now p) (λ t. get_or rest.now t 0) 0 m result }
+// The place, among the records that are left of a walk, of the one that departs from p.
+fn visit_of(s: &Chart, p: Point, rest: &[usize]) -> Option<usize>
+    ensures { result ≡ position (from s.now p) rest.now }
 {
-    let mut k = 0;
-    while k < m {
-        let j = rest[k];
-        if is_from(s, p, j) {
-            return k;
-        }
-        k += 1;
-    }
-    m
+    rest.iter().position(|&j| is_from(s, p, j))
 }
 
-fn lesser_of(i: usize, j: usize) -> usize
-    ensures { result ≡ lesser i j }
-{
-    if j < i {
-        return j;
-    }
-    i
-}
-
-// The least of f and of the records at the places from k on, below m, and their other halves.
+// The least of f, of the records of the cycle, and of their other halves.
 #[tactic(auto, using(crate::proofs::Sets::halving))]
-fn first_half(s: &[i16], f: usize, rest: &[usize], k: usize, m: usize) -> usize
-    requires { Region s.now × Stretch s.now rest.now k m }
-    ensures { result ≡ first_half s.now f (drop k (take m rest.now)) }
+fn first_half(s: &Chart, f: usize, cycle: &[usize]) -> usize
+    requires { Places s.now cycle.now }
+    ensures { result ≡ first_half s.now f cycle.now }
 {
     let mut least = f;
-    let mut t = k;
-    while t < m {
-        let j = rest[t];
-        let b = way_back(s, j);
-        least = lesser_of(lesser_of(least, j), b);
-        t += 1;
+    for &j in cycle {
+        least = least.min(j).min(way_back(s, j));
     }
     least
 }
 
 // Both halves of record j get the number v.
-fn name_record(s: &[i16], v: usize, j: usize, to: &mut [usize])
-    requires { Region s.now × (j < record_count s.now) × (record_count s.now ≤ length to.old) }
+fn name_record(s: &Chart, v: usize, j: usize, to: &mut [usize; LIMIT])
+    requires { j < record_count s.now }
     ensures { to.new ≡ name_record s.now v j to.old }
 {
     let b = way_back(s, j);
@@ -150,140 +133,111 @@ fn name_record(s: &[i16], v: usize, j: usize, to: &mut [usize])
     to[b] = v;
 }
 
-// Both halves of each of the records at the places from k on, below m, get the number v.
+// Both halves of each of the records of the cycle get the number v.
 #[tactic(auto, using(crate::proofs::Sets::naming))]
-fn name_all(s: &[i16], v: usize, rest: &[usize], k: usize, m: usize, to: &mut [usize])
-    requires { Region s.now × Stretch s.now rest.now k m × (record_count s.now ≤ length to.old) }
-    ensures { to.new ≡ name_all s.now v (drop k (take m rest.now)) to.old }
+fn name_all(s: &Chart, v: usize, cycle: &[usize], to: &mut [usize; LIMIT])
+    requires { Places s.now cycle.now }
+    ensures { to.new ≡ name_all s.now v cycle.now to.old }
 {
-    let mut t = k;
-    while t < m {
-        let j = rest[t];
+    for &j in cycle {
         name_record(s, v, j, to);
-        t += 1;
     }
 }
 
-// The walk that started at w comes to p: where it has departed from p, what it has walked since is a cycle. How many of
-// the m records are left.
+// The walk that started at w comes to p: where it has departed from p, what it has walked since is a cycle, and no
+// longer part of the rest.
 #[tactic(auto, using(crate::proofs::Sets::cuts))]
-fn cut_at(
-    s: &[i16],
-    p: Point,
-    w: usize,
-    rest: &[usize],
-    m: usize,
-    starts: &mut [usize],
-    firsts: &mut [usize],
-) -> usize
-    requires region { Region s.now × Stretch s.now rest.now 0 m }
-    requires room { (record_count s.now ≤ length starts.old) × (record_count s.now ≤ length firsts.old) }
-    ensures { CutTo s.now p w rest.now m starts.old firsts.old result starts.new firsts.new }
+fn cut_at(s: &Chart, p: Point, w: usize, rest: &mut ArrayVec<usize, LIMIT>, cycles: &mut Cycles)
+    requires { Places s.now rest.old.items }
+    ensures { CutTo s.now p w rest.old.items cycles.old.starts cycles.old.firsts
+        rest.new.items cycles.new.starts cycles.new.firsts }
 {
-    let k = visit_of(s, p, rest, m);
-    if k < m {
-        let j = rest[k];
-        let f = first_half(s, j, rest, k, m);
-        name_all(s, w, rest, k, m, starts);
-        name_all(s, f, rest, k, m, firsts);
+    let walked = rest.as_slice();
+    if let Some(k) = visit_of(s, p, walked) {
+        let cycle = &walked[k..];
+        let f = first_half(s, cycle[0], cycle);
+        name_all(s, w, cycle, &mut cycles.starts);
+        name_all(s, f, cycle, &mut cycles.firsts);
+        rest.truncate(k);
     }
-    k
 }
 
-// The walk that starts at w, cut wherever it returns to a point.
+// The walk that starts at w, cut wherever it returns to a point. What `rest` holds at first doesn't matter: it is lent
+// so that its places are made once for all walks.
 #[tactic(auto, using(crate::proofs::CuttingLaws::cutting))]
-fn cut_walk(s: &[i16], w: usize, starts: &mut [usize], firsts: &mut [usize])
-    requires region { Region s.now × (w < record_count s.now) }
-    requires room { (record_count s.now ≤ length starts.old) × (record_count s.now ≤ length firsts.old) }
-    ensures { CutWalk s.now w starts.old firsts.old starts.new firsts.new }
+fn cut_walk(s: &Chart, w: usize, rest: &mut ArrayVec<usize, LIMIT>, cycles: &mut Cycles)
+    requires { w < record_count s.now }
+    ensures { CutWalk s.now w cycles.old.starts cycles.old.firsts cycles.new.starts cycles.new.firsts }
 {
-    let n = s.len() / WIDTH;
-    let mut rest = [0usize; 512];
-    let mut m = 0;
+    rest.clear();
     let mut j = w;
-    let mut k = 0;
-    while k < n {
-        let r = record_at(s, j);
-        m = cut_at(s, r.dom, w, &rest, m, starts, firsts);
-        rest[m] = j;
-        m += 1;
+    // k is how many records are walked: the invariant counts them.
+    for k in 0..count_of(s) {
+        let r = record_of(s, j);
+        cut_at(s, r.dom, w, rest, cycles);
+        rest.push(j);
         j = next_of(s, j);
-        k += 1;
         if j == w {
-            k = n;
+            break;
         }
     }
-    let r = record_at(s, w);
-    cut_at(s, r.dom, w, &rest, m, starts, firsts);
+    let r = record_of(s, w);
+    cut_at(s, r.dom, w, rest, cycles);
 }
 
 // Record i is next: a record that departs and has no start yet is the least of its walk, which is cut.
-#[tactic(auto, using(crate::proofs::Sets::freed))]
-fn cut_from(s: &[i16], i: usize, starts: &mut [usize], firsts: &mut [usize])
-    requires region { Region s.now × (i < record_count s.now) }
-    requires room { (record_count s.now ≤ length starts.old) × (record_count s.now ≤ length firsts.old) }
-    ensures { CutFrom s.now i starts.old firsts.old starts.new firsts.new }
+fn cut_from(s: &Chart, i: usize, rest: &mut ArrayVec<usize, LIMIT>, cycles: &mut Cycles)
+    requires { i < record_count s.now }
+    ensures { CutFrom s.now i cycles.old.starts cycles.old.firsts cycles.new.starts cycles.new.firsts }
 {
-    let n = s.len() / WIDTH;
-    let w = starts[i];
-    let r = record_at(s, i);
-    if w == n {
-        if is_departing(r) {
-            cut_walk(s, i, starts, firsts);
-        }
+    let n = s.record_count();
+    if cycles.starts[i] == n && is_departing(record_of(s, i)) {
+        cut_walk(s, i, rest, cycles);
     }
 }
 
 // Each walk in turn.
 #[tactic(auto, using(crate::proofs::Sets::walking))]
-fn cut_walks(s: &[i16], starts: &mut [usize], firsts: &mut [usize])
-    requires region { Region s.now × Unset (record_count s.now) starts.old }
-    requires room { record_count s.now ≤ length firsts.old }
-    ensures { CutWalks s.now starts.old firsts.old starts.new firsts.new }
+fn cut_walks(s: &Chart, cycles: &mut Cycles)
+    requires { Unset (record_count s.now) cycles.old.starts }
+    ensures { CutWalks s.now cycles.old.starts cycles.old.firsts cycles.new.starts cycles.new.firsts }
 {
-    let n = s.len() / WIDTH;
-    let mut i = 0;
-    while i < n {
-        cut_from(s, i, starts, firsts);
-        i += 1;
+    let mut rest = ArrayVec::<usize, LIMIT>::new();
+    for i in 0..count_of(s) {
+        cut_from(s, i, &mut rest, cycles);
     }
 }
 
 // ---- all walks
 
-// The first n places get the number v.
-#[tactic(auto, using(crate::proofs::Sets::filling))]
+// The first n places get the number v: said of the whole list, where std's `fill` says it of each place.
 fn fill(v: usize, n: usize, to: &mut [usize])
     requires { n ≤ length to.old }
-    ensures { to.new ≡ listed (λ i. v) 0 n ++ drop n to.old }
+    ensures { to.new ≡ replicate n v ++ drop n to.old }
 {
-    let mut i = 0;
-    while i < n {
-        to[i] = v;
-        i += 1;
-    }
+    to[..n].fill(v);
 }
 
-// The walks of a chart, cut: for a record that is not there, and for a chart that is refused, 0.
+// The walks of an accepted chart, cut: for a record that is not there, 0. At first each start is n, which stands for
+// none: the arrays are the answer's own, and Options would be copied into it.
 #[tactic(auto, using(crate::proofs::Sets::answering))]
-pub fn cycles_of(chart: &[i16]) -> Cycles
+fn arrays_of(chart: &Chart) -> Cycles
+    ensures { result ≡ arrays_of chart.now }
+{
+    let n = chart.record_count();
+    let mut cycles = Cycles {
+        starts: [0; LIMIT],
+        firsts: [0; LIMIT],
+    };
+    fill(n, n, &mut cycles.starts);
+    cut_walks(chart, &mut cycles);
+    cycles
+}
+
+// The walks of a chart, cut.
+pub fn cycles_of(chart: &[i16]) -> Result<Cycles, ChartRefusal>
     ensures { Circled chart.now result }
 {
-    let mut starts = [0usize; 512];
-    let mut firsts = [0usize; 512];
-    let v = check(chart);
-    let a = v;
-    match a {
-        Verdict::Accepted => {
-            let n = chart.len() / WIDTH;
-            fill(n, n, &mut starts);
-            cut_walks(chart, &mut starts, &mut firsts);
-        }
-        Verdict::Refused(r) => {}
-    }
-    Cycles {
-        verdict: v,
-        starts,
-        firsts,
-    }
+    let chart = Chart::new(chart)?;
+    Ok(arrays_of(&chart))
 }

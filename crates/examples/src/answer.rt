@@ -1,67 +1,35 @@
 // An answer, and how it is said.
 use chart::Refusal;
-
-pub(crate) const OUTSIDE: usize = 0;
-
-pub(crate) const INSIDE: usize = 1;
-
-pub(crate) const EDGE: usize = 2;
-
-pub(crate) const AREA: usize = 3;
-
-pub(crate) const RECORDS: usize = 4;
-
-pub(crate) const REFUSAL: usize = 5;
-
-pub(crate) const ROW: usize = 6;
-
-pub(crate) const ROW_BELOW: usize = 7;
-
-// The words of the kinds, nine letters each.
-const WORDS: [u8; 72] =
-    *b"  Outside   Inside     Edge   area2  records  refusal      row     row -";
+use question::Place;
+use std::fmt;
 
 #[derive(Clone, Copy)]
-pub(crate) struct Answer {
-    pub(crate) kind: usize,
-    pub(crate) number: u64,
-    pub(crate) beside: u64,
+pub(crate) enum Answer {
+    Area(i64),
+    Place(Place),
+    Records(usize),
+    // A pressure is told by its bits.
+    Row { row: i16, pressure: u64 },
 }
 
-pub(crate) fn word(kind: usize) -> Answer {
-    Answer {
-        kind,
-        number: 0,
-        beside: 0,
-    }
-}
-
-pub(crate) fn refused(r: Refusal) -> Answer {
-    Answer {
-        kind: REFUSAL,
-        number: r.number as u64,
-        beside: r.index as u64,
-    }
-}
-
-pub(crate) fn say(a: Answer) {
-    let words = WORDS;
-    let start = 9 * (a.kind % 8);
-    let end = start + 9;
-    io::write_all(1, &words[start..end]);
-    if a.kind > EDGE {
-        io::print_decimal(1, a.number);
-        say_beside(a);
+// A word to the ninth column, or to the eighth and then a number.
+impl fmt::Display for Answer {
+    fn fmt<W: fmt::Write>(&self, f: &mut fmt::Formatter<W>) -> fmt::Result {
+        match self {
+            Answer::Area(z) => write!(f, "   area2 {z}"),
+            Answer::Place(Place::Outside) => f.write_str("  Outside"),
+            Answer::Place(Place::Inside) => f.write_str("   Inside"),
+            Answer::Place(Place::Edge) => f.write_str("     Edge"),
+            Answer::Records(n) => write!(f, " records {n}"),
+            Answer::Row { row, pressure } => write!(f, "     row {row}, pressure {pressure:016x}"),
+        }
     }
 }
 
-fn say_beside(a: Answer) {
-    if a.kind == REFUSAL {
-        io::write_all(1, b" at ");
-        io::print_decimal(1, a.beside);
-    }
-    if a.kind > REFUSAL {
-        io::write_all(1, b", pressure ");
-        io::print_hex(1, a.beside, 16);
-    }
+// A line, what is asked and the answer. One that standard output does not take is lost, and the program goes on.
+pub(crate) fn say(rt: &impl Print, name: &str, answer: Result<Answer, Refusal>) {
+    let _ = match answer {
+        Ok(answer) => println!(rt; "{name:<32}{answer}"),
+        Err(Refusal { number, index }) => println!(rt; "{name:<32} refusal {number} at {index}"),
+    };
 }

@@ -1,129 +1,168 @@
-// Document 01's charts, and the questions about them.
-ghost use Rattle.std.specs.Prelude.{◌<◌};
-
+// The charts of the bench examples, and the questions about them.
 use crate::answer;
 use crate::answer::Answer;
-use area::Area;
-use join::Joined;
-use question::Place;
+use chart::Refusal;
 use sides::Op;
 
-// The charts' records, 16 to a row, a letter to a number: a digit, or a and z for the grid's ends. The first row's
-// squares are the square and one of a row of them; the last row has the square and its neighbour.
-const RECORDS: [u8; 576] = *b"\
-    00401 00040 04000 04440 40001 40441 44040 44401 50901 50540 54500 54940 90501 90941 94540 94901 \
-    00401 00210 00121 00040 04000 04440 12001 12211 21121 21000 40001 40441 44040 44401             \
-    aaza1 aaaz0 azaa0 azza0 zaaz0 zaaa1                                                             \
-    00401 00040 04000 04440 40001 40441 44040 44400                                                 \
-    00400 00040 04000 04440 40000 40441 44040 44401                                                 \
-    00401 00040 04000 04440 40001 40441 44040 44401 40801 40440 44400 44840 80401 80841 84440 84801 ";
+// A chart's records, five numbers each.
+const SQUARE: [[i16; 5]; 8] = [
+    [0, 0, 4, 0, 1],
+    [0, 0, 0, 4, 0],
+    [0, 4, 0, 0, 0],
+    [0, 4, 4, 4, 0],
+    [4, 0, 0, 0, 1],
+    [4, 0, 4, 4, 1],
+    [4, 4, 0, 4, 0],
+    [4, 4, 4, 0, 1],
+];
 
-// How many numbers are taken of each chart.
-const LENGTHS: [usize; 9] = [40, 70, 30, 40, 40, 2560, 2565, 6, 0];
+const LAST_MARK_ZERO: [[i16; 5]; 8] = [
+    [0, 0, 4, 0, 1],
+    [0, 0, 0, 4, 0],
+    [0, 4, 0, 0, 0],
+    [0, 4, 4, 4, 0],
+    [4, 0, 0, 0, 1],
+    [4, 0, 4, 4, 1],
+    [4, 4, 0, 4, 0],
+    [4, 4, 4, 0, 0],
+];
 
-// The points that are asked about, three each in the first three charts.
-const XS: [i16; 9] = [2, 4, 5, 1, 3, 0, -1, 0, 0];
+const BOTTOM_MARKED_ZERO: [[i16; 5]; 8] = [
+    [0, 0, 4, 0, 0],
+    [0, 0, 0, 4, 0],
+    [0, 4, 0, 0, 0],
+    [0, 4, 4, 4, 0],
+    [4, 0, 0, 0, 0],
+    [4, 0, 4, 4, 1],
+    [4, 4, 0, 4, 0],
+    [4, 4, 4, 0, 1],
+];
 
-const YS: [i16; 9] = [2, 2, 2, 1, 3, 0, -1, -1, 0];
+const NEIGHBOUR: [[i16; 5]; 8] = [
+    [4, 0, 8, 0, 1],
+    [4, 0, 4, 4, 0],
+    [4, 4, 4, 0, 0],
+    [4, 4, 8, 4, 0],
+    [8, 0, 4, 0, 1],
+    [8, 0, 8, 4, 1],
+    [8, 4, 4, 4, 0],
+    [8, 4, 8, 0, 1],
+];
 
-// ---- making a chart
+const SQUARE_WITH_HOLE: [[i16; 5]; 14] = [
+    [0, 0, 4, 0, 1],
+    [0, 0, 2, 1, 0],
+    [0, 0, 1, 2, 1],
+    [0, 0, 0, 4, 0],
+    [0, 4, 0, 0, 0],
+    [0, 4, 4, 4, 0],
+    [1, 2, 0, 0, 1],
+    [1, 2, 2, 1, 1],
+    [2, 1, 1, 2, 1],
+    [2, 1, 0, 0, 0],
+    [4, 0, 0, 0, 1],
+    [4, 0, 4, 4, 1],
+    [4, 4, 0, 4, 0],
+    [4, 4, 4, 0, 1],
+];
 
-// Number i of a row that goes on for ever: past its end its records come again, 10 further right each time.
-fn number_in(row: usize, i: usize) -> i16
-    requires { (row < 6) × (i < 2600) }
-{
-    let k = i % 80;
-    let letter = RECORDS[96 * row + k / 5 * 6 + k % 5];
-    if letter == b'a' {
-        return -32768;
+const LARGE_TRIANGLE: [[i16; 5]; 6] = [
+    [i16::MIN, i16::MIN, i16::MAX, i16::MIN, 1],
+    [i16::MIN, i16::MIN, i16::MIN, i16::MAX, 0],
+    [i16::MIN, i16::MAX, i16::MIN, i16::MIN, 0],
+    [i16::MIN, i16::MAX, i16::MAX, i16::MIN, 0],
+    [i16::MAX, i16::MIN, i16::MIN, i16::MAX, 0],
+    [i16::MAX, i16::MIN, i16::MIN, i16::MIN, 1],
+];
+
+// The square over and over, each time 5 further right: 513 records, one more than a chart may have.
+fn row_of_squares() -> [[i16; 5]; 513] {
+    let square = SQUARE;
+    let mut row = [[0; 5]; 513];
+    // By its place, which tells how far right each record lies.
+    for i in 0..513 {
+        let [x, y, other_x, other_y, mark] = square[i % 8];
+        let right = 5 * (i / 8) as i16;
+        row[i] = [
+            x.saturating_add(right),
+            y,
+            other_x.saturating_add(right),
+            other_y,
+            mark,
+        ];
     }
-    if letter == b'z' {
-        return 32767;
-    }
-    let n = 32768 + (letter % 16) as u16;
-    if k % 5 == 0 || k % 5 == 2 {
-        return grid::number_at(n + 10 * (i / 80) as u16);
-    }
-    grid::number_at(n)
-}
-
-fn chart_of(row: usize) -> [i16; 2600]
-    requires { row < 6 }
-{
-    let mut all = [0i16; 2600];
-    let mut i = 0;
-    while i < 2600 {
-        all[i] = number_in(row, i);
-        i += 1;
-    }
-    all
+    row
 }
 
 // ---- asking
 
-pub(crate) fn area_of(k: usize) -> Answer
-    requires { k < 9 }
-{
-    let all = chart_of(row_of(k));
-    let n = LENGTHS[k] % 2600;
-    let a = area::area2(&all[0..n]);
-    match a {
-        Area::Twice(z) => Answer {
-            kind: answer::AREA,
-            number: magnitude(z),
-            beside: 0,
-        },
-        Area::Refused(r) => answer::refused(r),
+pub(crate) fn say_areas(rt: &impl Print) {
+    let squares = row_of_squares();
+    let (most, _) = squares.split_at(512);
+    let square = SQUARE.as_flattened();
+    let areas: [(&str, &[i16]); 9] = [
+        ("the square", square),
+        ("the square plus a hole", SQUARE_WITH_HOLE.as_flattened()),
+        ("the large triangle", LARGE_TRIANGLE.as_flattened()),
+        ("the square, its last mark 0", LAST_MARK_ZERO.as_flattened()),
+        (
+            "the square, its bottom marked 0",
+            BOTTOM_MARKED_ZERO.as_flattened(),
+        ),
+        ("512 records", most.as_flattened()),
+        ("513 records", squares.as_flattened()),
+        ("six numbers", &square[..6]),
+        ("the empty chart", &[]),
+    ];
+    for (name, chart) in areas {
+        answer::say(rt, name, area_of(chart));
     }
 }
 
-fn row_of(k: usize) -> usize
-    ensures { result < 6 }
-{
-    if k < 5 { k } else { 0 }
+fn area_of(chart: &[i16]) -> Result<Answer, Refusal> {
+    Ok(Answer::Area(area::area2(chart)?))
 }
 
-// No chart has less than nothing inside.
-fn magnitude(z: i64) -> u64 {
-    if z < 0 {
-        return 0;
-    }
-    z as u64
-}
-
-pub(crate) fn place_of(k: usize) -> Answer
-    requires { k < 9 }
-{
-    let all = chart_of(k / 3);
-    let n = LENGTHS[k / 3] % 2600;
-    let a = question::point(&all[0..n], XS[k], YS[k]);
-    match a {
-        Place::Outside => answer::word(answer::OUTSIDE),
-        Place::Inside => answer::word(answer::INSIDE),
-        Place::Edge => answer::word(answer::EDGE),
-        Place::Refused(r) => answer::refused(r),
+pub(crate) fn say_places(rt: &impl Print) {
+    let places: [(&str, &[[i16; 5]], i16, i16); 9] = [
+        ("(2,2) in the square", &SQUARE, 2, 2),
+        ("(4,2) in the square", &SQUARE, 4, 2),
+        ("(5,2) in the square", &SQUARE, 5, 2),
+        ("(1,1) beside the hole", &SQUARE_WITH_HOLE, 1, 1),
+        ("(3,3) beside the hole", &SQUARE_WITH_HOLE, 3, 3),
+        ("(0,0) beside the hole", &SQUARE_WITH_HOLE, 0, 0),
+        ("(-1,-1) in the triangle", &LARGE_TRIANGLE, -1, -1),
+        ("(0,-1) in the triangle", &LARGE_TRIANGLE, 0, -1),
+        ("(0,0) in the triangle", &LARGE_TRIANGLE, 0, 0),
+    ];
+    for (name, chart, x, y) in places {
+        answer::say(rt, name, place_of(chart.as_flattened(), x, y));
     }
 }
 
-pub(crate) fn joined_by(k: usize) -> Answer {
-    let all = chart_of(5);
-    let both = &all[..];
-    let mut out = [0i16; 60];
-    let a = join::combine(op_of(k), &both[0..40], &both[40..80], &mut out);
-    match a {
-        Joined::Records(n) => Answer {
-            kind: answer::RECORDS,
-            number: n as u64,
-            beside: 0,
-        },
-        Joined::Refused { chart, refusal } => answer::refused(refusal),
+fn place_of(chart: &[i16], x: i16, y: i16) -> Result<Answer, Refusal> {
+    Ok(Answer::Place(question::point(chart, x, y)?))
+}
+
+pub(crate) fn say_joinings(rt: &impl Print) {
+    let joinings = [
+        ("the square or its neighbour", Op::Union),
+        ("the square and its neighbour", Op::Intersection),
+        ("the square without its neighbour", Op::Difference),
+    ];
+    for (name, op) in joinings {
+        answer::say(rt, name, joined_by(op));
     }
 }
 
-fn op_of(k: usize) -> Op {
-    match k {
-        0 => Op::Union,
-        1 => Op::Intersection,
-        _ => Op::Difference,
-    }
+fn joined_by(op: Op) -> Result<Answer, Refusal> {
+    let (square, neighbour) = (SQUARE, NEIGHBOUR);
+    let mut out = [0; 60];
+    let n = join::combine(
+        op,
+        square.as_flattened(),
+        neighbour.as_flattened(),
+        &mut out,
+    )?;
+    Ok(Answer::Records(n))
 }

@@ -1,17 +1,16 @@
 -- Writing the two numbers of each cycle, one after the other, into a lent array (specs/Lists.antt).
 --     Entered s lent out i m     the array that was `lent` is now `out`: those of the m cycles whose first record is
 --                                before record i are written
---     cycle-put                  the two stores of a cycle
---     entered-none, -room, -more, -still, -all    from record to record
+--     entered_none, _room, _more, _still, _all    from record to record
 -- Assumes nothing.
 use mathlib.Core.Path.{◌≡◌, refl, sym, ap, ap₂, ◌∙◌}
-use mathlib.Core.Bool.{cond}
+use mathlib.Core.Bool.{Bool, true, false, cond}
 use mathlib.Core.List.{List, [], ◌∷◌, ◌++◌, append_assoc, append-nil}
 use Prim.Native.Nat.{ℕ, suc, ◌+◌, ◌*◌, ◌<◌, ◌≤◌, zero-le}
 use native.Mathlib.Numerals.{add-one}
 use native.Mathlib.Omega.{arith}
 use lib.IntN.{ℤ}
-use lib.ListN.{length, get_or, drop, set, length-append, length-set}
+use lib.ListN.{length, drop, set, length-append, length-set}
 use lib.Seq.{append_snoc}
 use Rattle.counts.specs.Count.{count, keep, listed, places}
 use Rattle.counts.specs.Scan.{Counted}
@@ -20,8 +19,7 @@ use Rattle.record.specs.Records.{record_count}
 use Rattle.walks.specs.Cycles.{is_first, cycle_count}
 use Rattle.walks.specs.Faces.{face_of}
 use Rattle.faces.specs.Lists.{kind_of, entries_of, cycle_list}
-use Rattle.faces.specs.Steps.{Known, Numbered, with_cycle}
-use Rattle.faces.proofs.KnownLaws.{is-first, not_first}
+use Rattle.faces.specs.Steps.{with_cycle}
 use Rattle.faces.proofs.EntriesLaws.{entries, entries-size, entries_next, more-cycles}
 use Rattle.faces.proofs.LabelLaws.{front-set}
 
@@ -46,14 +44,10 @@ front-two xs lent k a b e l =
     two : suc (suc k) ≡ k + 2
     two = omega arith
 
-pub cycle-put : (s : List ℤ) (i : ℕ) (to : List ℕ) (m : ℕ) {k f : ℕ} → k ≡ kind_of s i → Numbered s (face_of s i) f
-    → set (set to (2 * m) k) (2 * m + 1) f ≡ with_cycle s i to m
-cycle-put s i to m e h = ap₂ (λ k f. set (set to (2 * m) k) (2 * m + 1) f) e h.is
-
 module _ (s : List ℤ) (lent : List ℕ) where
-  pub entered-none : 2 * cycle_count s ≤ length lent → Entered s lent lent 0 0
+  pub entered_none : 2 * cycle_count s ≤ length lent → Entered s lent lent 0 0
   unfolding entries_of keep listed
-  entered-none h = record {
+  entered_none h = record {
     within = zero-le;
     room = h;
     counted = counted_none (is_first s) (λ i. i);
@@ -62,31 +56,30 @@ module _ (s : List ℤ) (lent : List ℕ) where
   }
 
   module _ {out : List ℕ} {i m : ℕ} (so_far : Entered s lent out i m) where
-    pub entered_all : record_count s ≤ i → out ≡ cycle_list s ++ drop (2 * cycle_count s) lent
+    pub entered_all : record_count s ≡ i → out ≡ cycle_list s ++ drop (2 * cycle_count s) lent
     entered_all h =
-        let e : i ≡ record_count s = omega (arith, so_far.within) in
+        let e : i ≡ record_count s = sym h in
         let all = so_far.counted.is ∙ ap (λ n. count (is_first s) (places n)) e in
         so_far.is ∙ ap₂ (λ n k. entries s n ++ drop (2 * k) lent) e all
 
-    module _ {starts firsts : List ℕ} (known : Known s starts firsts) (l : i < record_count s) where
-      pub entered-room : get_or firsts i 0 ≡ i → 2 * m + 2 ≤ length out
-      entered-room e =
-          omega (arith, more-cycles s so_far.counted l (is-first known l e), so_far.room, so_far.long)
+    module _ {b : Bool} (l : i < record_count s) (is : b ≡ is_first s i) where
+      pub entered_room : b ≡ true → 2 * m + 2 ≤ length out
+      entered_room e = omega (arith, more-cycles s so_far.counted l (sym is ∙ e), so_far.room, so_far.long)
 
-      pub entered-more : {put next : List ℕ} {k : ℕ} → get_or firsts i 0 ≡ i → put ≡ with_cycle s i out m → next ≡ put
+      pub entered_more : {put next : List ℕ} {k : ℕ} → b ≡ true → put ≡ with_cycle s i out m → next ≡ put
           → k ≡ m + 1 → Entered s lent next (i + 1) k
       unfolding entries_of
-      entered-more e p d f = rw (d, p, f) (record {
+      entered_more e p d f = rw (d, p, f) (record {
         within = omega arith;
         room = so_far.room;
-        counted = counted-yes (is_first s) (λ i. i) so_far.counted (sym (is-first known l e)) refl refl;
+        counted = counted-yes (is_first s) (λ i. i) so_far.counted (sym (sym is ∙ e)) refl refl;
         long = length-set (set out (2 * m) (kind_of s i)) (2 * m + 1) (face_of s i)
             ∙ length-set out (2 * m) (kind_of s i)
             ∙ so_far.long;
         is = ap (λ t. with_cycle s i t m) so_far.is
             ∙ front-two (entries s i) lent (2 * m) (kind_of s i) (face_of s i) size
-            (omega (arith, entered-room e, so_far.long))
-            ∙ ap₂ (λ b k. entries s i ++ entries_of s (cond b (i ∷ []) []) ++ drop k lent) (sym (is-first known l e))
+            (omega (arith, entered_room e, so_far.long))
+            ∙ ap₂ (λ b k. entries s i ++ entries_of s (cond b (i ∷ []) []) ++ drop k lent) (sym (sym is ∙ e))
             twice
             ∙ ap (λ t. t ++ drop (2 * (m + 1)) lent) (sym (entries_next s i));
       })
@@ -97,17 +90,17 @@ module _ (s : List ℤ) (lent : List ℕ) where
           twice : 2 * m + 2 ≡ 2 * (m + 1)
           twice = omega arith
 
-      pub entered-still : {next : List ℕ} {k : ℕ} → (get_or firsts i 0 ≡ i → ⊥) → next ≡ out → k ≡ m
+      pub entered_still : {next : List ℕ} {k : ℕ} → b ≡ false → next ≡ out → k ≡ m
           → Entered s lent next (i + 1) k
       unfolding entries_of
-      entered-still e d f = rw (d, f) (record {
+      entered_still e d f = rw (d, f) (record {
         within = omega arith;
         room = so_far.room;
-        counted = counted-no (is_first s) (λ i. i) so_far.counted (sym (not_first known l e)) refl refl;
+        counted = counted-no (is_first s) (λ i. i) so_far.counted (sym (sym is ∙ e)) refl refl;
         long = so_far.long;
         is = so_far.is
             ∙ ap (λ t. t ++ drop (2 * m) lent) (sym (append-nil (entries s i)))
             ∙ ap (λ b. entries s i ++ entries_of s (cond b (i ∷ []) []) ++ drop (2 * m) lent)
-            (sym (not_first known l e))
+            (sym (sym is ∙ e))
             ∙ ap (λ t. t ++ drop (2 * m) lent) (sym (entries_next s i));
       })

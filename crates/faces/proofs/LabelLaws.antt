@@ -1,7 +1,7 @@
 -- Writing the cycle number of each record, one after the other, into a lent array (specs/Lists.antt).
 --     front-set                  one number more after those at the start of an array
 --     Labelled s lent out i      the array that was `lent` is now `out`: the numbers of the first i records are written
---     labelled-none, -more, -all     from record to record
+--     labelled_none, _more, _all     from record to record
 -- Assumes nothing.
 use mathlib.Core.Path.{◌≡◌, refl, sym, ap, ◌∙◌}
 use mathlib.Core.List.{List, [], ◌∷◌, ◌++◌}
@@ -15,9 +15,9 @@ use lib.Seq.{drop-cons, set_at, append_snoc}
 use Rattle.counts.specs.Count.{count, listed, places}
 use Rattle.counts.proofs.ListedLaws.{listed-snoc, listed-length}
 use Rattle.record.specs.Records.{record_count}
-use Rattle.walks.specs.Cycles.{is_first, cycle_number}
+use Rattle.walks.specs.Cycles.{first_of, is_first, cycle_number}
 use Rattle.faces.specs.Lists.{labels_of}
-use Rattle.faces.specs.Steps.{Known, Numbered}
+use Rattle.faces.specs.Steps.{Numbered}
 
 pub front-set : (xs lent : List ℕ) (k v : ℕ) → length xs ≡ k → k < length lent
     → set (xs ++ drop k lent) k v ≡ xs ++ v ∷ drop (suc k) lent
@@ -31,15 +31,15 @@ pub record Labelled (s : List ℤ) (lent out : List ℕ) (i : ℕ) : Type 0 wher
   pub is : out ≡ listed (cycle_number s) 0 i ++ drop i lent
 
 module _ (s : List ℤ) (lent : List ℕ) where
-  pub labelled-none : record_count s ≤ length lent → Labelled s lent lent 0
+  pub labelled_none : record_count s ≤ length lent → Labelled s lent lent 0
   unfolding listed
-  labelled-none h = record { within = zero-le; room = h; long = refl; is = refl }
+  labelled_none h = record { within = zero-le; room = h; long = refl; is = refl }
 
   module _ {out : List ℕ} {i : ℕ} (so_far : Labelled s lent out i) where
-    pub labelled-more : {starts firsts : List ℕ} {m : ℕ} → Known s starts firsts → i < record_count s
-        → Numbered s (count (is_first s) (places (get_or firsts i 0))) m → Labelled s lent (set out i m) (i + 1)
+    pub labelled_more : {f m : ℕ} → i < record_count s → f ≡ first_of s i
+        → Numbered s (count (is_first s) (places f)) m → Labelled s lent (set out i m) (i + 1)
     unfolding cycle_number
-    labelled-more {m = m} known l number = record {
+    labelled_more {m = m} l first number = record {
       within = omega arith;
       room = so_far.room;
       long = length-set out i m ∙ so_far.long;
@@ -54,10 +54,9 @@ module _ (s : List ℤ) (lent : List ℕ) where
       where
         value : m ≡ cycle_number s (0 + i)
         value =
-            number.is ∙ ap (λ f. count (is_first s) (places f)) (known.first i l)
+            number.is ∙ ap (λ f. count (is_first s) (places f)) first
             ∙ ap (cycle_number s) (sym (zero-add i))
 
-    pub labelled-all : record_count s ≤ i → out ≡ labels_of s ++ drop (record_count s) lent
-    labelled-all h =
-        let e : i ≡ record_count s = omega (arith, so_far.within) in
-        so_far.is ∙ ap (λ k. listed (cycle_number s) 0 k ++ drop k lent) e
+    pub labelled_all : record_count s ≡ i → out ≡ labels_of s ++ drop (record_count s) lent
+    labelled_all h =
+        so_far.is ∙ ap (λ k. listed (cycle_number s) 0 k ++ drop k lent) (sym h)

@@ -20,25 +20,26 @@ use lib.Dec.{ltb}
 use lib.IntN.{ℤ}
 use lib.ListN.{length, drop}
 use borrow.Author.Tests.{ltb-false}
+use Rattle.std.specs.Prelude.{Ok, Err}
 use Rattle.counts.specs.Count.{places}
-use Rattle.counts.proofs.TestLaws.{and-true, or_is, ltb-is}
-use Rattle.counts.proofs.CountLaws.{count-le, count_most}
+use Rattle.counts.proofs.TestLaws.{or_is, ltb-is}
+use Rattle.counts.proofs.CountLaws.{count_most}
 use Rattle.counts.proofs.ListedLaws.{listed-length}
 use Rattle.record.specs.Records.{record_count}
-use Rattle.chart.specs.declared.Refusal.{Refusal}
-use Rattle.chart.specs.declared.Verdict.{Verdict}
-use Rattle.chart.specs.declared.Verdict.TheVariants as verdict
-use Rattle.chart.specs.Verdicts.{limit, refusal_of, verdict}
+use Rattle.chart.specs.declared.ChartRefusal.{ChartRefusal}
+use Rattle.chart.specs.Verdicts.{limit, Verdict, refusal_of, verdict}
 use Rattle.chart.specs.Regions.{Region}
 use Rattle.chart.proofs.RegionLaws.{accepted-is}
 use Rattle.chart.proofs.IndexLaws as index
 use Rattle.chart.proofs.IndexLaws.{verdict-told}
 use Rattle.walks.specs.Cycles.{is_first, cycle_count, cycle_number}
-use Rattle.walks.specs.Faces.{is_outer, first_outer, face_count}
-use Rattle.faces.specs.declared.FaceList.{FaceList}
-use Rattle.faces.specs.declared.FaceList.TheVariants.{Listed, Refused}
-use Rattle.faces.specs.Lists.{labels_of, cycle_list, listed_in, list_if, faces_of, contents, list_refusal, Lists}
-use Rattle.faces.specs.Steps.{too_short}
+use Rattle.walks.specs.Faces.{face_count}
+use Rattle.walks.proofs.NumberLaws.{few_faces}
+use Rattle.faces.specs.declared.answer.FaceCounts.{FaceCounts}
+use Rattle.faces.specs.declared.FaceRefusal.{FaceRefusal}
+use Rattle.faces.specs.declared.FaceRefusal.TheVariants.{Chart, NoRoom}
+use Rattle.faces.specs.Lists.{FaceList, labels_of, cycle_list, listed_in, list_if, faces_of, contents, list_refusal}
+use Rattle.faces.specs.Lists.{Lists}
 use Rattle.faces.proofs.EntriesLaws.{cycle_list-length}
 
 pub record Told (s : List ℤ) (labels cycles labels' cycles' : List ℕ) (m k : ℕ) : Type 0 where
@@ -53,14 +54,18 @@ pub record Told (s : List ℤ) (labels cycles labels' cycles' : List ℕ) (m k :
 abbrev pub TooShort : List ℤ → ℕ → ℕ → Type 0
 TooShort s l c = (l < record_count s) ⊎ (c < 2 * cycle_count s)
 
-one-cycles : {m k a b : ℕ} → Listed m k ≡ Listed a b → (m ≡ a) × (k ≡ b)
-one-cycles e = (cc, cc)
+one-answer : {a b : FaceCounts} → ◌≡◌ {A = FaceList} (Ok a) (Ok b) → a ≡ b
+one-answer e = cc
 
-one-refusal : {r q : Refusal} → Refused r ≡ Refused q → r ≡ q
+one-refusal : {r q : FaceRefusal} → ◌≡◌ {A = FaceList} (Err r) (Err q) → r ≡ q
 one-refusal e = cc
 
-never_both : {m k : ℕ} {r : Refusal} → Listed m k ≡ Refused r → ⊥
+never_both : {a : FaceCounts} {r : FaceRefusal} → ◌≡◌ {A = FaceList} (Ok a) (Err r) → ⊥
 never_both e = let o : ◌≡◌ {A = ℕ} 0 1 = cc in omega arith
+
+-- the numbers of cycles and of faces
+abbrev counts_of : List ℤ → FaceCounts
+counts_of s = record { cycles = cycle_count s; faces = face_count s; within = few_faces s (record_count s) }
 
 -- the same as a test
 abbrev short : List ℤ → ℕ → ℕ → Bool
@@ -70,24 +75,23 @@ short-is : (s : List ℤ) (l c : ℕ) → (short s l c ≡ true) ↔ TooShort s 
 short-is s l c = or_is (ltb l (record_count s)) (ltb c (2 * cycle_count s)) (ltb-is refl) (ltb-is refl)
 
 module _ {s : List ℤ} {labels cycles labels' cycles' : List ℕ} where
-  pub lists-told : {m k : ℕ} → Lists s labels cycles labels' cycles' (Listed m k)
-      → Told s labels cycles labels' cycles' m k
+  pub lists-told : {a : FaceCounts} → Lists s labels cycles labels' cycles' (Ok a)
+      → Told s labels cycles labels' cycles' a.cycles a.faces
   unfolding faces_of listed_in
-  lists-told {m} {k} lists = by-verdict (verdict s) refl lists.says
+  lists-told {a} lists = by-verdict (verdict s) refl lists.says
     where
       none-short : (x y : Bool) → ltb (length labels) (record_count s) ≡ x → ltb (length cycles) (2 * cycle_count s) ≡ y
-          → verdict s ≡ verdict.Accepted
-          → Listed m k ≡ cond (x || y) too_short (Listed (cycle_count s) (face_count s))
-          → Told s labels cycles labels' cycles' m k
+          → verdict s ≡ Ok tt → ◌≡◌ {A = FaceList} (Ok a)
+          (cond (x || y) (Err NoRoom) (Ok (counts_of s)))
+          → Told s labels cycles labels' cycles' a.cycles a.faces
       none-short true y t u h e = absurd (never_both e)
       none-short false true t u h e = absurd (never_both e)
       none-short false false t u h e =
-          let w = one-cycles e in
-          let many = w.0 in
+          let many = ap (λ c. c.cycles) (one-answer e) in
           record {
             region = (accepted-is s).0 h;
             many = many;
-            bounded = w.1;
+            bounded = ap (λ c. c.faces) (one-answer e);
             room-labels = ltb-false _ _ t;
             room-cycles = omega (arith, ltb-false (length cycles) (2 * cycle_count s) u);
             labelled =
@@ -98,45 +102,46 @@ module _ {s : List ℤ} {labels cycles labels' cycles' : List ℕ} where
                 ∙ ap (λ n. cycle_list s ++ drop n cycles) (cycle_list-length s ∙ ap (λ n. 2 * n) (sym many));
           }
 
-      by-verdict : (v : Verdict) → verdict s ≡ v → Listed m k ≡ list_if v (listed_in s (length labels) (length cycles))
-          → Told s labels cycles labels' cycles' m k
-      by-verdict verdict.Accepted h e =
+      by-verdict : (v : Verdict) → verdict s ≡ v
+          → ◌≡◌ {A = FaceList} (Ok a) (list_if v (listed_in s (length labels) (length cycles)))
+          → Told s labels cycles labels' cycles' a.cycles a.faces
+      by-verdict (Ok u) h e =
           none-short (ltb (length labels) (record_count s)) (ltb (length cycles) (2 * cycle_count s)) refl refl h e
-      by-verdict (verdict.Refused r) h e = absurd (never_both e)
+      by-verdict (Err r) h e = absurd (never_both e)
 
   -- ---- refusals
 
-  pub lists-untouched : {r : Refusal} → Lists s labels cycles labels' cycles' (Refused r)
+  pub lists-untouched : {r : FaceRefusal} → Lists s labels cycles labels' cycles' (Err r)
       → (labels' ≡ labels) × (cycles' ≡ cycles)
   lists-untouched lists = (lists.labelled, lists.listed)
 
-  pub lists-refusal : {r : Refusal} → Lists s labels cycles labels' cycles' (Refused r)
-      → (verdict s ≡ verdict.Refused r)
-      ⊎ (Region s × (r ≡ record { number = 10; index = 0 }) × TooShort s (length labels) (length cycles))
+  pub lists-refusal : {r : FaceRefusal} → Lists s labels cycles labels' cycles' (Err r)
+      → ((q : ChartRefusal) × (verdict s ≡ Err q) × (r ≡ Chart q))
+      ⊎ (Region s × (r ≡ NoRoom) × TooShort s (length labels) (length cycles))
   unfolding faces_of listed_in
   lists-refusal {r} lists = by-verdict (verdict s) refl lists.says
     where
       Ends : Type 0
       Ends =
-          (verdict s ≡ verdict.Refused r)
-          ⊎ (Region s × (r ≡ record { number = 10; index = 0 }) × TooShort s (length labels) (length cycles))
+          ((q : ChartRefusal) × (verdict s ≡ Err q) × (r ≡ Chart q))
+          ⊎ (Region s × (r ≡ NoRoom) × TooShort s (length labels) (length cycles))
 
-      by_length : (b : Bool) → short s (length labels) (length cycles) ≡ b → verdict s ≡ verdict.Accepted
-          → Refused r ≡ cond b too_short (Listed (cycle_count s) (face_count s)) → Ends
+      by_length : (b : Bool) → short s (length labels) (length cycles) ≡ b → verdict s ≡ Ok tt
+          → ◌≡◌ {A = FaceList} (Err r) (cond b (Err NoRoom) (Ok (counts_of s))) → Ends
       by_length true t h e = inr ((accepted-is s).0 h, one-refusal e, (short-is s (length labels) (length cycles)).0 t)
       by_length false t h e = absurd (never_both (sym e))
 
-      by-verdict : (v : Verdict) → verdict s ≡ v → Refused r ≡ list_if v (listed_in s (length labels) (length cycles))
-          → Ends
-      by-verdict verdict.Accepted h e = by_length (short s (length labels) (length cycles)) refl h e
-      by-verdict (verdict.Refused q) h e = inl (h ∙ ap verdict.Refused (sym (one-refusal e)))
+      by-verdict : (v : Verdict) → verdict s ≡ v
+          → ◌≡◌ {A = FaceList} (Err r) (list_if v (listed_in s (length labels) (length cycles))) → Ends
+      by-verdict (Ok u) h e = by_length (short s (length labels) (length cycles)) refl h e
+      by-verdict (Err q) h e = inl (q, h, one-refusal e)
 
   pub lists-short : {a : FaceList} → Region s → TooShort s (length labels) (length cycles)
-      → Lists s labels cycles labels' cycles' a → a ≡ Refused (record { number = 10; index = 0 })
+      → Lists s labels cycles labels' cycles' a → a ≡ Err NoRoom
   unfolding faces_of listed_in
   lists-short region o lists =
       lists.says
-      ∙ ap₂ (λ v b. list_if v (cond b too_short (Listed (cycle_count s) (face_count s)))) ((accepted-is s).1 region)
+      ∙ ap₂ (λ v b. list_if v (cond b (Err NoRoom) (Ok (counts_of s)))) ((accepted-is s).1 region)
       ((short-is s (length labels) (length cycles)).1 o)
 
   pub lists-one : {labels'' cycles'' : List ℕ} {a b : FaceList} → Lists s labels cycles labels' cycles' a
@@ -162,12 +167,7 @@ module _ {s : List ℤ} {labels cycles labels' cycles' : List ℕ} where
           listed-length (λ i. i) 0 (record_count s),
           told.region.few,
         ),
-        omega (
-          arith,
-          told.many,
-          told.bounded,
-          count-le (first_outer s) (is_first s) all (λ i m t. (and-true (is_first s i) (is_outer s i) t).0),
-        ),
+        omega (arith, told.many, told.bounded, few_faces s (record_count s)),
       )
 
 pub faces_of-told : (s : List ℤ) (l c : ℕ)
@@ -175,9 +175,9 @@ pub faces_of-told : (s : List ℤ) (l c : ℕ)
 unfolding faces_of listed_in
 faces_of-told s l c = go (verdict s) (short s l c) (verdict-told s)
   where
-    go : (v : Verdict) (b : Bool) → index.Told (refusal_of v)
-        → let a = list_if v (cond b too_short (Listed (cycle_count s) (face_count s))) in
+    go : (v : Verdict) (b : Bool) → index.Told (refusal_of {A = Unit {0}} v)
+        → let a = list_if v (cond b (Err NoRoom) (Ok (counts_of s))) in
         ((list_refusal a).number ≤ 10) × ((list_refusal a).index < limit)
-    go verdict.Accepted true t = (omega arith, omega arith)
-    go verdict.Accepted false t = (omega arith, omega arith)
-    go (verdict.Refused r) b t = (omega (arith, t.number), t.index)
+    go (Ok u) true t = (omega arith, omega arith)
+    go (Ok u) false t = (omega arith, omega arith)
+    go (Err r) b t = (omega (arith, t.number), t.index)

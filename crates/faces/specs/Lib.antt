@@ -1,2 +1,3 @@
 pub mod Lists
+pub mod Known
 pub mod Steps

@@ -5,27 +5,31 @@
 --     kind_of s i            of the cycle of record i: 0 for outer or 1 for hole
 --     entries_of s is        the two numbers of the cycle of each of the records is
 --     cycle_list s           two numbers per cycle, in their order: each cycle is told by its first record
---     listed_in s l c        of an accepted chart, for lent arrays of l and c numbers: 10 exactly when either is too
---                            short; else the number of cycles and of faces
+--     FaceList               the number of cycles and of faces, with that the faces are no more (`few_faces` of walks),
+--                            or why they are not listed
+--     listed_in s l c        of an accepted chart, for lent arrays of l and c numbers: no room exactly when either is
+--                            too short; else the number of cycles and of faces
 --     list_if v a            the answer a, or the refusal that v gives
 --     faces_of s l c         of any array: first its refusal, if it is no chart
 --     contents a xs lent     what a lent array holds then: xs at its start, the rest as it was; all of it as it was
 --                            where the answer is a refusal
---     list_refusal a         the paper's number and index for each case: 0 and 0 where it is answered
+--     told_listing r         the number and index of a refusal: the chart's own, or 10 and 0
+--     list_refusal a         the same for each case: 0 and 0 where it is answered
 --     Lists s labels cycles labels' cycles' a     the answer is a, and the arrays that were labels and cycles are then
 --                            labels' and cycles'
 -- Assumes nothing.
 use Rattle.std.specs.Prelude.{◌≡◌, cond, ◌||◌, List, [], ◌∷◌, ◌++◌, ℕ, ◌*◌, ltb, ℤ, length, drop}
+use Rattle.std.specs.Prelude.{Result, Ok, Err}
 use Rattle.counts.specs.Count.{keep, listed, places}
 use Rattle.record.specs.Records.{record_count}
 use Rattle.chart.specs.declared.Refusal.{Refusal}
-use Rattle.chart.specs.declared.Verdict.{Verdict}
-use Rattle.chart.specs.declared.Verdict.TheVariants as verdict
-use Rattle.chart.specs.Verdicts.{no_refusal, verdict}
+use Rattle.chart.specs.Verdicts.{Verdict, told, no_refusal, verdict}
 use Rattle.walks.specs.Cycles.{is_first, cycle_count, cycle_number}
 use Rattle.walks.specs.Faces.{is_outer, face_count, face_of}
-use Rattle.faces.specs.declared.FaceList.{FaceList}
-use Rattle.faces.specs.declared.FaceList.TheVariants.{Listed, Refused}
+use Rattle.walks.proofs.NumberLaws.{few_faces}
+use Rattle.faces.specs.declared.answer.FaceCounts.{FaceCounts}
+use Rattle.faces.specs.declared.FaceRefusal.{FaceRefusal}
+use Rattle.faces.specs.declared.FaceRefusal.TheVariants.{Chart, NoRoom}
 
 -- ---- the list
 
@@ -44,25 +48,32 @@ cycle_list s = entries_of s (keep (is_first s) (places (record_count s)))
 
 -- ---- the answer
 
+abbrev pub FaceList : Type 0
+FaceList = Result FaceCounts FaceRefusal
+
 unfoldable pub listed_in : List ℤ → ℕ → ℕ → FaceList
 listed_in s l c =
-    cond (ltb l (record_count s) || ltb c (2 * cycle_count s)) (Refused (record { number = 10; index = 0 }))
-    (Listed (cycle_count s) (face_count s))
+    cond (ltb l (record_count s) || ltb c (2 * cycle_count s)) (Err NoRoom)
+    (Ok (record { cycles = cycle_count s; faces = face_count s; within = few_faces s (record_count s) }))
 
 abbrev pub list_if : Verdict → FaceList → FaceList
-list_if verdict.Accepted a = a
-list_if (verdict.Refused r) a = Refused r
+list_if (Ok u) a = a
+list_if (Err r) a = Err (Chart r)
 
 unfoldable pub faces_of : List ℤ → ℕ → ℕ → FaceList
 faces_of s l c = list_if (verdict s) (listed_in s l c)
 
 abbrev pub contents : FaceList → List ℕ → List ℕ → List ℕ
-contents (Listed m k) xs lent = xs ++ drop (length xs) lent
-contents (Refused r) xs lent = lent
+contents (Ok a) xs lent = xs ++ drop (length xs) lent
+contents (Err r) xs lent = lent
+
+abbrev pub told_listing : FaceRefusal → Refusal
+told_listing (Chart r) = told r
+told_listing NoRoom = record { number = 10; index = 0 }
 
 abbrev pub list_refusal : FaceList → Refusal
-list_refusal (Listed m k) = no_refusal
-list_refusal (Refused r) = r
+list_refusal (Ok a) = no_refusal
+list_refusal (Err r) = told_listing r
 
 pub record Lists (s : List ℤ) (labels cycles labels' cycles' : List ℕ) (a : FaceList) : Type 0 where
   pub says : a ≡ faces_of s (length labels) (length cycles)

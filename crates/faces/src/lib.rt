@@ -5,270 +5,310 @@
 ghost use Rattle.std.specs.Prelude.{◌≡◌, true, ◌&&◌, ◌++◌, ◌+◌, ◌*◌, ◌≤◌, ◌<◌, eqb, length, drop};
 ghost use Rattle.counts.specs.Count.{count, places};
 ghost use Rattle.record.specs.Records.{record_count};
-ghost use Rattle.walks.specs.Cycles.{start_of, is_first, cycle_count};
-ghost use Rattle.walks.specs.Faces.{first_outer, face_number, outer_in, face_of};
-ghost use Rattle.faces.specs.Lists.{kind_of, labels_of, cycle_list, Lists};
-ghost use Rattle.faces.specs.Steps.{Known, WalkFaces, Numbered, with_cycle, too_short, SoundLists};
+ghost use Rattle.chart.specs.Verdicts.{limit};
+ghost use Rattle.chart.specs.Regions.{Region};
+ghost use Rattle.walks.specs.Cycles.{start_of, first_of, is_first, cycle_count};
+ghost use Rattle.walks.specs.Faces.{first_outer, face_number, face_of};
+ghost use Rattle.faces.specs.declared.FaceRefusal.TheVariants.{Chart};
+ghost use Rattle.faces.specs.Lists.{kind_of, labels_of, cycle_list, told_listing, Lists};
+ghost use Rattle.faces.specs.Steps.{WalkFaces, Numbered, outer_place, with_cycle, SoundLists};
 
-use chart::{Refusal, Verdict};
+pub mod answer;
+
+pub use answer::FaceCounts;
+use chart::{ChartRefusal, Refusal};
 use cycles::cycles_of;
-use record::{MARKED, WIDTH, record_at};
+use record::{MARKED, record_at, record_count};
+use std::marker::Model;
 
-// What is answered: how many cycles were listed and how many faces they bound, or why none were.
-#[derive(Clone, Copy)]
-pub enum FaceList {
-    Listed { cycles: usize, faces: usize },
-    Refused(Refusal),
+// Why none were listed: the array is no chart, or a lent array is too short.
+#[derive(Clone, Copy, Debug, PartialEq, Eq)]
+pub enum FaceRefusal {
+    Chart(ChartRefusal),
+    NoRoom,
 }
 
-// ---- cycles
+impl From<ChartRefusal> for FaceRefusal {
+    ghost from_gives = { λ r e. e ≡ Chart r };
 
-// How many of the first n records are the first of their cycle.
-#[tactic(auto, using(counts::proofs::LoopLaws::counted_none, crate::proofs::Sets::firsts))]
-fn count_firsts(s: &[i16], starts: &[usize], firsts: &[usize], n: usize) -> usize
-    requires { Known s.now starts.now firsts.now × (n ≤ record_count s.now) }
-    ensures { Numbered s.now (count (is_first s.now) (places n)) result }
-{
-    let mut i = 0;
-    let mut m = 0;
-    while i < n {
-        let f = firsts[i];
-        if f == i {
-            m += 1;
+    fn from(r: ChartRefusal) -> FaceRefusal {
+        FaceRefusal::Chart(r)
+    }
+}
+
+impl From<FaceRefusal> for Refusal {
+    ghost from_gives = { λ r e. e ≡ told_listing r };
+
+    fn from(r: FaceRefusal) -> Refusal {
+        match r {
+            FaceRefusal::Chart(refusal) => Refusal::from(refusal),
+            FaceRefusal::NoRoom => Refusal {
+                number: 10,
+                index: 0,
+            },
         }
-        i += 1;
     }
-    m
 }
 
-// ---- faces
+// ---- a chart that is cut
 
-// Whether record i is the first of an outer cycle: the first record of a cycle has mark 1 exactly if the cycle is
-// outer.
-#[tactic(auto, using(crate::proofs::Sets::outer), unfolding(grid::specs::Coordinates::up))]
-fn is_first_outer(s: &[i16], starts: &[usize], firsts: &[usize], i: usize) -> bool
-    requires { Known s.now starts.now firsts.now × (i < record_count s.now) }
-    ensures { result ≡ first_outer s.now i }
-{
-    let f = firsts[i];
-    let r = record_at(s, i);
-    f == i && r.mark == MARKED
+// An accepted chart, and for each of its records where its walk starts and the first record of its cycle.
+#[derive(Drop)]
+struct Cut<'a> {
+    chart: &'a [i16],
+    starts: &'a [usize],
+    firsts: &'a [usize],
 }
 
-// How many of the first n records are the first of an outer cycle.
-#[tactic(auto, using(counts::proofs::StepLaws::summing, crate::proofs::Sets::outers))]
-fn count_outers(s: &[i16], starts: &[usize], firsts: &[usize], n: usize) -> usize
-    requires { Known s.now starts.now firsts.now × (n ≤ record_count s.now) }
-    ensures { Numbered s.now (face_number s.now n) result }
-{
-    let mut i = 0;
-    let mut m = 0;
-    while i < n {
-        if is_first_outer(s, starts, firsts, i) {
-            m += 1;
+impl<'a> Model for Cut<'a> {
+    ghost use Rattle.std.specs.Prelude.{List, ℤ};
+    ghost use Rattle.faces.specs.Known.{Known};
+
+    ghost Value = { List ℤ };
+
+    ghost view = { λ c. c.chart.now };
+
+    ghost invariant = { λ c. Known c.chart.now c.starts.now c.firsts.now };
+}
+
+impl<'a> Cut<'a> {
+    #[tactic(auto, using(crate::proofs::KnownLaws::known_region))]
+    fn chart(&self) -> &[i16]
+        ensures numbers { result.now ≡ self.now }
+        ensures region { Region self.now }
+    {
+        self.chart
+    }
+
+    // How many records it has.
+    fn len(&self) -> usize
+        ensures value { result ≡ record_count self.now }
+        ensures few { result ≤ limit }
+    {
+        record_count(self.chart())
+    }
+
+    // Where the walk of record i starts. A reader for each of the two arrays: one that is told which would be no
+    // plainer.
+    #[tactic(auto, using(crate::proofs::KnownLaws::told))]
+    fn start(&self, i: usize) -> usize
+        requires { i < record_count self.now }
+        ensures value { result ≡ start_of self.now i }
+        ensures bound { result < record_count self.now }
+        ensures region { Region self.now }
+    {
+        let starts = self.starts;
+        starts[i]
+    }
+
+    // The first record of the cycle of record i.
+    #[tactic(auto, using(crate::proofs::KnownLaws::told))]
+    fn first(&self, i: usize) -> usize
+        requires { i < record_count self.now }
+        ensures value { result ≡ first_of self.now i }
+        ensures bound { result < record_count self.now }
+        ensures region { Region self.now }
+    {
+        let firsts = self.firsts;
+        firsts[i]
+    }
+
+    // ---- cycles
+
+    fn is_first(&self, i: usize) -> bool
+        requires { i < record_count self.now }
+        ensures { result ≡ is_first self.now i }
+    {
+        self.first(i) == i
+    }
+
+    // How many of the first n records are the first of their cycle. A loop and no chain: `Numbered` says that the count
+    // fits, and of a chain's count that is a second function and a proof of its own.
+    #[tactic(auto, using(counts::proofs::StepLaws::summing, crate::proofs::NumberLaws::firsts_numbered))]
+    fn count_firsts(&self, n: usize) -> usize
+        requires { n ≤ record_count self.now }
+        ensures { Numbered self.now (count (is_first self.now) (places n)) result }
+    {
+        let mut m = 0;
+        for i in 0..n {
+            if self.is_first(i) {
+                m += 1;
+            }
         }
-        i += 1;
+        m
     }
-    m
-}
 
-// Whether record i is the first of an outer cycle of the walk that starts at w.
-#[tactic(auto, using(crate::proofs::Sets::outer_here))]
-fn is_outer_in(s: &[i16], starts: &[usize], firsts: &[usize], w: usize, i: usize) -> bool
-    requires { Known s.now starts.now firsts.now × (i < record_count s.now) }
-    ensures { result ≡ first_outer s.now i && eqb (start_of s.now i) w }
-{
-    let v = starts[i];
-    is_first_outer(s, starts, firsts, i) && v == w
-}
+    // ---- faces
 
-// The first record of the outer cycle of the walk that starts at w; the number of records where it has none.
-#[tactic(auto, using(counts::proofs::StepLaws::looking, crate::proofs::Sets::found_outer))]
-fn outer_in(s: &[i16], starts: &[usize], firsts: &[usize], w: usize) -> usize
-    requires { Known s.now starts.now firsts.now }
-    ensures { Numbered s.now (outer_in s.now w) result }
-{
-    let n = s.len() / WIDTH;
-    let mut i = 0;
-    while i < n {
-        if is_outer_in(s, starts, firsts, w, i) {
-            return i;
+    // Whether record i is the first of an outer cycle: the first record of a cycle has mark 1 exactly if the cycle is
+    // outer.
+    #[tactic(auto, using(crate::proofs::KnownLaws::first_marked), unfolding(grid::specs::Coordinates::up))]
+    fn is_first_outer(&self, i: usize) -> bool
+        requires { i < record_count self.now }
+        ensures { result ≡ first_outer self.now i }
+    {
+        let r = record_at(self.chart(), i);
+        self.is_first(i) && r.mark == MARKED
+    }
+
+    // How many of the first n records are the first of an outer cycle; a loop for the same reason.
+    #[tactic(auto, using(counts::proofs::StepLaws::summing, crate::proofs::NumberLaws::outers_numbered))]
+    fn count_outers(&self, n: usize) -> usize
+        requires { n ≤ record_count self.now }
+        ensures { Numbered self.now (face_number self.now n) result }
+    {
+        let mut m = 0;
+        for i in 0..n {
+            if self.is_first_outer(i) {
+                m += 1;
+            }
         }
-        i += 1;
+        m
     }
-    n
-}
 
-// The face of the walk that starts at w: that of its outer cycle; else that of the walk of the segment nearest below
-// its smallest point, which starts earlier.
-#[tactic(auto, using(crate::proofs::Sets::below))]
-fn face_in_walk(s: &[i16], starts: &[usize], firsts: &[usize], faces: &[usize], w: usize) -> usize
-    requires known { Known s.now starts.now firsts.now × WalkFaces s.now w faces.now }
-    requires starting { (w < record_count s.now) × (start_of s.now w ≡ w) }
-    ensures { result ≡ face_of s.now w }
-{
-    let n = s.len() / WIDTH;
-    let o = outer_in(s, starts, firsts, w);
-    if o < n {
-        return count_outers(s, starts, firsts, o);
+    // Whether record i is the first of an outer cycle of the walk that starts at w.
+    fn is_outer_in(&self, w: usize, i: usize) -> bool
+        requires { i < record_count self.now }
+        ensures { result ≡ first_outer self.now i && eqb (start_of self.now i) w }
+    {
+        self.is_first_outer(i) && self.start(i) == w
     }
-    let r = record_at(s, w);
-    let b = nearest::highest_below(s, r.dom);
-    let v = starts[b];
-    faces[v]
-}
 
-#[tactic(auto, using(crate::proofs::FillLaws::fill_none, crate::proofs::FillLaws::fill_start, crate::proofs::Sets::filling))]
-fn fill_faces(s: &[i16], starts: &[usize], firsts: &[usize], faces: &mut [usize])
-    requires { Known s.now starts.now firsts.now × (record_count s.now ≤ length faces.old) }
-    ensures { WalkFaces s.now (record_count s.now) faces.new }
-{
-    let n = s.len() / WIDTH;
-    let mut w = 0;
-    while w < n {
-        let v = starts[w];
-        if v == w {
-            let f = face_in_walk(s, starts, firsts, faces, w);
-            faces[w] = f;
+    // The first record of the outer cycle of the walk that starts at w.
+    fn outer_in(&self, w: usize) -> Option<usize>
+        ensures { result ≡ outer_place self.now w }
+    {
+        (0..self.len()).find(|&i| self.is_outer_in(w, i))
+    }
+
+    // The face of the walk that starts at w: that of its outer cycle; else that of the walk of the segment nearest
+    // below its smallest point, which starts earlier. `faces` goes beside the cut with a clause of its own, and in no
+    // type: while it is being filled it holds the walks before w alone.
+    #[tactic(auto, using(crate::proofs::Sets::below))]
+    fn face_in_walk(&self, faces: &[usize], w: usize) -> usize
+        requires known { WalkFaces self.now w faces.now }
+        requires starting { (w < record_count self.now) × (start_of self.now w ≡ w) }
+        ensures { result ≡ face_of self.now w }
+    {
+        let r = record_at(self.chart(), w);
+        if let Some(o) = self.outer_in(w) {
+            return self.count_outers(o);
         }
-        w += 1;
+        let below = nearest::highest_below(self.chart(), r.dom);
+        faces[self.start(below)]
     }
-}
 
-// ---- writing
-
-#[tactic(auto, using(crate::proofs::Sets::labelling))]
-fn write_labels(s: &[i16], starts: &[usize], firsts: &[usize], labels: &mut [u16])
-    requires { Known s.now starts.now firsts.now × (record_count s.now ≤ length labels.old) }
-    ensures { labels.new ≡ labels_of s.now ++ drop (record_count s.now) labels.old }
-{
-    let n = s.len() / WIDTH;
-    let mut labelled = 0;
-    while labelled < n {
-        let f = firsts[labelled];
-        let m = count_firsts(s, starts, firsts, f);
-        labels[labelled] = m as u16;
-        labelled += 1;
-    }
-}
-
-// 0 for an outer cycle or 1 for a hole, by its first record.
-#[tactic(auto, using(crate::proofs::Sets::kinds))]
-fn kind_of(s: &[i16], starts: &[usize], firsts: &[usize], i: usize) -> u16
-    requires known { Known s.now starts.now firsts.now × (i < record_count s.now) }
-    requires first { is_first s.now i ≡ true }
-    ensures { result ≡ kind_of s.now i }
-{
-    if is_first_outer(s, starts, firsts, i) {
-        return 0;
-    }
-    1
-}
-
-// The face of the cycle of record i: that of its walk.
-#[tactic(auto, using(crate::proofs::FillLaws::cycle_start, crate::proofs::Sets::cycle_faces))]
-fn face_of(s: &[i16], starts: &[usize], firsts: &[usize], faces: &[usize], i: usize) -> usize
-    requires known { Known s.now starts.now firsts.now × WalkFaces s.now (record_count s.now) faces.now }
-    requires there { i < record_count s.now }
-    ensures { Numbered s.now (face_of s.now i) result }
-{
-    let w = starts[i];
-    faces[w]
-}
-
-// The two numbers of the cycle whose first record is i become those of cycle m of the array.
-#[tactic(auto, using(crate::proofs::Sets::put))]
-fn put_cycle(
-    s: &[i16],
-    starts: &[usize],
-    firsts: &[usize],
-    faces: &[usize],
-    i: usize,
-    cycles: &mut [u16],
-    m: usize,
-)
-    requires known { Known s.now starts.now firsts.now × WalkFaces s.now (record_count s.now) faces.now }
-    requires first { (i < record_count s.now) × (is_first s.now i ≡ true) }
-    requires room { 2 * m + 2 ≤ length cycles.old }
-    ensures { cycles.new ≡ with_cycle s.now i cycles.old m }
-{
-    let face = face_of(s, starts, firsts, faces, i);
-    cycles[2 * m] = kind_of(s, starts, firsts, i);
-    cycles[2 * m + 1] = face as u16;
-}
-
-#[tactic(auto, using(crate::proofs::EntryLaws::entered_all, crate::proofs::Sets::entering))]
-fn write_cycles(s: &[i16], starts: &[usize], firsts: &[usize], faces: &[usize], cycles: &mut [u16])
-    requires known { Known s.now starts.now firsts.now × WalkFaces s.now (record_count s.now) faces.now }
-    requires room { 2 * cycle_count s.now ≤ length cycles.old }
-    ensures { cycles.new ≡ cycle_list s.now ++ drop (2 * cycle_count s.now) cycles.old }
-{
-    let n = s.len() / WIDTH;
-    let mut passed = 0;
-    let mut m = 0;
-    while passed < n {
-        let f = firsts[passed];
-        if f == passed {
-            put_cycle(s, starts, firsts, faces, passed, cycles, m);
-            m += 1;
+    #[tactic(auto, using(crate::proofs::Sets::filling))]
+    fn fill_faces(&self, faces: &mut [usize])
+        requires { record_count self.now ≤ length faces.old }
+        ensures { WalkFaces self.now (record_count self.now) faces.new }
+    {
+        for w in 0..self.len() {
+            if self.start(w) == w {
+                let face = self.face_in_walk(faces, w);
+                faces[w] = face;
+            }
         }
-        passed += 1;
+    }
+
+    // ---- writing
+
+    #[tactic(auto, using(crate::proofs::Sets::labelling))]
+    fn write_labels(&self, labels: &mut [u16])
+        requires { record_count self.now ≤ length labels.old }
+        ensures { labels.new ≡ labels_of self.now ++ drop (record_count self.now) labels.old }
+    {
+        for i in 0..self.len() {
+            let number = self.count_firsts(self.first(i));
+            labels[i] = number as u16;
+        }
+    }
+
+    // 0 for an outer cycle or 1 for a hole, as the lent array has it: by the cycle's first record.
+    fn kind_of(&self, i: usize) -> u16
+        requires known { i < record_count self.now }
+        requires first { is_first self.now i ≡ true }
+        ensures { result ≡ kind_of self.now i }
+    {
+        if self.is_first_outer(i) { 0 } else { 1 }
+    }
+
+    // The face of the cycle of record i: that of its walk.
+    #[tactic(auto, using(crate::proofs::FillLaws::cycle_face))]
+    fn face_of(&self, faces: &[usize], i: usize) -> usize
+        requires known { WalkFaces self.now (record_count self.now) faces.now }
+        requires there { i < record_count self.now }
+        ensures number { Numbered self.now (face_of self.now i) result }
+        ensures small { result ≤ limit }
+    {
+        faces[self.start(i)]
+    }
+
+    // The two numbers of the cycle whose first record is i become those of cycle m of the array.
+    fn put_cycle(&self, faces: &[usize], i: usize, cycles: &mut [u16], m: usize)
+        requires known { WalkFaces self.now (record_count self.now) faces.now }
+        requires first { (i < record_count self.now) × (is_first self.now i ≡ true) }
+        requires room { 2 * m + 2 ≤ length cycles.old }
+        ensures { cycles.new ≡ with_cycle self.now i cycles.old m }
+    {
+        let face = self.face_of(faces, i);
+        cycles[2 * m] = self.kind_of(i);
+        cycles[2 * m + 1] = face as u16;
+    }
+
+    // The two numbers of each cycle. m counts what is written: there may be fewer cycles than records.
+    #[tactic(auto, using(crate::proofs::Sets::entering))]
+    fn write_cycles(&self, faces: &[usize], cycles: &mut [u16])
+        requires known { WalkFaces self.now (record_count self.now) faces.now }
+        requires room { 2 * cycle_count self.now ≤ length cycles.old }
+        ensures { cycles.new ≡ cycle_list self.now ++ drop (2 * cycle_count self.now) cycles.old }
+    {
+        let mut m = 0;
+        for i in 0..self.len() {
+            if self.is_first(i) {
+                self.put_cycle(faces, i, cycles, m);
+                m += 1;
+            }
+        }
+    }
+
+    // The whole list. Nothing is written before it is known that all of it can be.
+    #[tactic(auto, using(crate::proofs::Sets::listing))]
+    fn list(&self, labels: &mut [u16], cycles: &mut [u16]) -> Result<FaceCounts, FaceRefusal>
+        ensures { SoundLists self.now labels.old cycles.old labels.new cycles.new result }
+    {
+        let n = self.len();
+        let m = self.count_firsts(n);
+        if labels.len() < n || cycles.len() < 2 * m {
+            return Err(FaceRefusal::NoRoom);
+        }
+        let mut faces = [0usize; 512];
+        self.fill_faces(&mut faces);
+        self.write_labels(labels);
+        self.write_cycles(&faces, cycles);
+        Ok(FaceCounts {
+            cycles: m,
+            faces: self.count_outers(n),
+        })
     }
 }
 
 // ---- the list
 
-fn too_short() -> FaceList
-    ensures { result ≡ too_short }
-{
-    FaceList::Refused(Refusal {
-        number: 10,
-        index: 0,
-    })
-}
-
-// Of a chart that is accepted. Nothing is written before it is known that all of it can be.
-#[tactic(auto, using(crate::proofs::Sets::listing))]
-fn list_sound(
-    s: &[i16],
-    starts: &[usize],
-    firsts: &[usize],
-    labels: &mut [u16],
-    cycles: &mut [u16],
-) -> FaceList
-    requires { Known s.now starts.now firsts.now }
-    ensures { SoundLists s.now labels.old cycles.old labels.new cycles.new result }
-{
-    let n = s.len() / WIDTH;
-    let m = count_firsts(s, starts, firsts, n);
-    if labels.len() < n {
-        return too_short();
-    }
-    if cycles.len() < 2 * m {
-        return too_short();
-    }
-    let mut faces = [0usize; 512];
-    fill_faces(s, starts, firsts, &mut faces);
-    write_labels(s, starts, firsts, labels);
-    write_cycles(s, starts, firsts, &faces, cycles);
-    FaceList::Listed {
-        cycles: m,
-        faces: count_outers(s, starts, firsts, n),
-    }
-}
-
 // The faces and holes of a chart: the cycle number of each record into the first array, two numbers per cycle into the
 // second.
-#[tactic(auto, using(crate::proofs::Sets::answering))]
-pub fn faces(chart: &[i16], labels: &mut [u16], cycles: &mut [u16]) -> FaceList
+pub fn faces(
+    chart: &[i16],
+    labels: &mut [u16],
+    cycles: &mut [u16],
+) -> Result<FaceCounts, FaceRefusal>
     ensures { Lists chart.now labels.old cycles.old labels.new cycles.new result }
 {
-    let c = cycles_of(chart);
-    let starts = c.starts;
-    let firsts = c.firsts;
-    let v = c.verdict;
-    match v {
-        Verdict::Accepted => list_sound(chart, &starts, &firsts, labels, cycles),
-        Verdict::Refused(r) => FaceList::Refused(r),
-    }
+    let c = cycles_of(chart)?;
+    let cut = Cut {
+        chart,
+        starts: &c.starts,
+        firsts: &c.firsts,
+    };
+    cut.list(labels, cycles)
 }

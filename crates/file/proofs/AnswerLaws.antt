@@ -12,12 +12,11 @@ use lib.IntN.{ℤ}
 use lib.ListN.{length, take, drop}
 use lib.Seq.{take_at, drop_at}
 use Rattle.record.specs.Records.{width}
-use Rattle.chart.specs.declared.Refusal.{Refusal}
+use Rattle.std.specs.Prelude.{Ok, Err}
+use Rattle.file.specs.declared.FileRefusal.{FileRefusal}
 use Rattle.chart.specs.Verdicts.{limit}
-use Rattle.file.specs.declared.Answer.{Answer}
-use Rattle.file.specs.declared.Answer.TheVariants.{Records, Refused}
 use Rattle.file.specs.Files.{Taken, taken, refused, file_of}
-use Rattle.file.specs.Answers.{answer_of, contents, Reads}
+use Rattle.file.specs.Answers.{Answer, answer_of, contents, Reads}
 use Rattle.file.specs.Steps.{is_taken}
 use Rattle.file.proofs.FileLaws.{fields-length}
 use Rattle.file.proofs.TakenLaws.{file_of-parts}
@@ -37,14 +36,14 @@ file_of-length s room end zs e =
     let long = fields-length s 0 (width * p.count) p.first (ap is_taken p.records) in
     (p.count, rw p.records at long, p.few, p.fits)
 
-not-records : {r : Refusal} {n : ℕ} → Records n ≡ Refused r → ⊥
+not-records : {r : FileRefusal} {n : ℕ} → ◌≡◌ {A = Answer} (Ok n) (Err r) → ⊥
 not-records e = let o : ◌≡◌ {A = ℕ} 0 1 = cc in omega arith
 
 pub reads-took : (s : List ℕ) (lent out : List ℤ) {n : ℕ} {a : Answer} → Reads s lent out a
-    → a ≡ Records n → Took s (length lent) lent out n
+    → a ≡ Ok n → Took s (length lent) lent out n
 reads-took s lent out {n} r e = go (file_of s (length lent)) refl (sym e ∙ r.says) r.leaves
   where
-    go : (t : Taken) → file_of s (length lent) ≡ t → Records n ≡ answer_of t → out ≡ contents t lent
+    go : (t : Taken) → file_of s (length lent) ≡ t → Ok n ≡ answer_of t → out ≡ contents t lent
         → Took s (length lent) lent out n
     go (taken zs end) h m w =
         let p = file_of-length s (length lent) end zs h in
@@ -58,14 +57,14 @@ reads-took s lent out {n} r e = go (file_of s (length lent)) refl (sym e ∙ r.s
         record { end = end; is = h ∙ ap (λ ys. taken ys end) (sym whole); few = few; fits = fits; beyond = beyond }
     go (refused q) h m w = absurd (not-records m)
 
-pub reads-refused : (s : List ℕ) (lent out : List ℤ) {q : Refusal} {a : Answer} → Reads s lent out a → a ≡ Refused q
+pub reads-refused : (s : List ℕ) (lent out : List ℤ) {q : FileRefusal} {a : Answer} → Reads s lent out a → a ≡ Err q
     → file_of s (length lent) ≡ refused q
 reads-refused s lent out {q} r e = go (file_of s (length lent)) refl (sym e ∙ r.says)
   where
-    go : (t : Taken) → file_of s (length lent) ≡ t → Refused q ≡ answer_of t → file_of s (length lent) ≡ refused q
+    go : (t : Taken) → file_of s (length lent) ≡ t → Err q ≡ answer_of t → file_of s (length lent) ≡ refused q
     go (taken zs end) h m = absurd (not-records (sym m))
     go (refused x) h m = cc
 
-pub reads-untouched : (s : List ℕ) (lent out : List ℤ) {q : Refusal} {a : Answer}
-    → Reads s lent out a → a ≡ Refused q → out ≡ lent
+pub reads-untouched : (s : List ℕ) (lent out : List ℤ) {q : FileRefusal} {a : Answer}
+    → Reads s lent out a → a ≡ Err q → out ≡ lent
 reads-untouched s lent out r e = rw (reads-refused s lent out r e) at r.leaves

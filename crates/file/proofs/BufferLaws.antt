@@ -21,13 +21,11 @@ use borrow.Author.Tests.{lt-ltb, ltb-false}
 use Rattle.counts.proofs.TestLaws.{lt-or-le}
 use Rattle.record.specs.Records.{width}
 use Rattle.chart.specs.Verdicts.{limit}
-use Rattle.file.specs.declared.Field.{Field}
-use Rattle.file.specs.declared.Field.TheVariants as field
-use Rattle.number.specs.declared.Number.{Number}
-use Rattle.number.specs.declared.Number.TheVariants as number
-use Rattle.number.specs.Numbers.{number_in, number_at}
-use Rattle.file.specs.Fields.{is_mark, field_in, field_at}
-use Rattle.file.specs.Files.{Taken, taken, refused, refused_by, onto, after, fields, whole, counted, file_of}
+use Rattle.std.specs.Prelude.{Ok, Err}
+use Rattle.file.specs.declared.FileRefusal.TheVariants.{LeftOver, TooMany, NoRoom}
+use Rattle.number.specs.Numbers.{Number, got, number_in, number_at}
+use Rattle.file.specs.Fields.{Field, is_mark, field_in, field_at}
+use Rattle.file.specs.Files.{Taken, taken, refused, onto, after, fields, whole, counted, file_of}
 use Rattle.number.proofs.SizeLaws.{number_in-append}
 use Rattle.file.proofs.LengthLaws.{size, most, most-records, field_at-size, records-next, count_next}
 
@@ -61,8 +59,8 @@ fields-append s more k (suc m) at l =
         → ((next : ℕ) → next + most (suc k) m + 2 ≤ length s
         → fields (s ++ more) (suc k) m next ≡ fields s (suc k) m next)
         → after x (fields (s ++ more) (suc k) m) ≡ after x (fields s (suc k) m)
-    go (field.Value z next) h rest = ap (onto z) (rest next (omega (arith, field_at-size s k at z next h)))
-    go (field.Refused r) h rest = refl
+    go (Ok (z, next)) h rest = ap (onto z) (rest next (omega (arith, field_at-size s k at z next h)))
+    go (Err r) h rest = refl
 
 -- ---- a file
 
@@ -74,7 +72,7 @@ module _ (s more : List ℕ) (room : ℕ) (l : 2 + 13 * limit + 2 ≤ length s) 
       let a : end < length s = h end zs refl in
       let b : end < length (s ++ more) = omega (arith, length-append s more) in
       let e = lt-ltb end (length (s ++ more)) b ∙ sym (lt-ltb end (length s) a) in
-      ap (λ t. cond t (refused_by 34 end) (taken zs end)) e
+      ap (λ t. cond t (refused (LeftOver end)) (taken zs end)) e
   left_over (refused r) h = refl
 
   -- n records after a count that takes two bytes or less
@@ -90,19 +88,19 @@ module _ (s more : List ℕ) (room : ℕ) (l : 2 + 13 * limit + 2 ≤ length s) 
   unfolding file_of
   past = ap (counted (s ++ more) room) (number_at-append s more 0 (omega arith)) ∙ by-count (number_at s 0) refl
     where
-      by-limit : (n next : ℕ) → number_at s 0 ≡ number.Value n next → (t : Bool) → ltb limit n ≡ t
-          → cond t (refused_by 35 0)
-          (cond (ltb room (width * n)) (refused_by 36 0) (whole (s ++ more) (fields (s ++ more) 0 (width * n) next)))
-          ≡ cond t (refused_by 35 0)
-          (cond (ltb room (width * n)) (refused_by 36 0) (whole s (fields s 0 (width * n) next)))
+      by-limit : (n next : ℕ) → number_at s 0 ≡ got n next → (t : Bool) → ltb limit n ≡ t
+          → cond t (refused TooMany)
+          (cond (ltb room (width * n)) (refused NoRoom) (whole (s ++ more) (fields (s ++ more) 0 (width * n) next)))
+          ≡ cond t (refused TooMany)
+          (cond (ltb room (width * n)) (refused NoRoom) (whole s (fields s 0 (width * n) next)))
       by-limit n next h true g = refl
       by-limit n next h false g =
           let few : n ≤ limit = ltb-false limit n g in
-          ap (cond (ltb room (width * n)) (refused_by 36 0)) (records-past n next few (count_next s n next h few))
+          ap (cond (ltb room (width * n)) (refused NoRoom)) (records-past n next few (count_next s n next h few))
 
       by-count : (x : Number) → number_at s 0 ≡ x → counted (s ++ more) room x ≡ counted s room x
-      by-count (number.Value n next) h = by-limit n next h (ltb limit n) refl
-      by-count (number.Refused r) h = refl
+      by-count (Ok (n, next)) h = by-limit n next h (ltb limit n) refl
+      by-count (Err r) h = refl
 
 -- ---- a buffer
 

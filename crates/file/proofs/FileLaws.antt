@@ -1,7 +1,10 @@
--- A whole file, by what the code has seen of it. A law for each return of `read_records` and `read`; `reading` has them
--- all. A bound k is any that refuses no more, so that a wrong one is refused for what it lets through.
+-- The records of a file, by what the code has seen of them. A law for each return of `read_records`; `reading` has them
+-- all.
 --     end_of-taken     numbers that end somewhere can all be taken
 --     fields-length    and are as many as were asked for
+--     records-left-over    bytes are left over after them
+--     records-refused      one of them is refused
+--     records-read         they are read into the lent array
 -- Assumes nothing.
 use mathlib.Core.Path.{◌≡◌, refl, sym, ap, ◌∙◌}
 use mathlib.Core.Bool.{true, true≢false}
@@ -12,21 +15,12 @@ use borrow.Author.Tests.{lt-ltb, le-ltb}
 use lib.IntN.{ℤ}
 use lib.ListN.{length}
 use Rattle.record.specs.Records.{width}
-use Rattle.chart.specs.declared.Refusal.{Refusal}
-use Rattle.chart.specs.Verdicts.{limit}
-use Rattle.file.specs.declared.Answer.{Answer}
-use Rattle.file.specs.declared.Answer.TheVariants as answer
-use Rattle.file.specs.declared.End.{End}
-use Rattle.file.specs.declared.End.TheVariants as end
-use Rattle.file.specs.declared.Field.{Field}
-use Rattle.file.specs.declared.Field.TheVariants as field
-use Rattle.number.specs.declared.Number.{Number}
-use Rattle.number.specs.declared.Number.TheVariants as number
-use Rattle.number.specs.Numbers.{number_at}
-use Rattle.file.specs.Fields.{field_at}
-use Rattle.file.specs.Files.{Taken, taken, refused, refused_by, onto, after, fields, records_of}
-use Rattle.file.specs.Files.{file_of}
-use Rattle.file.specs.Answers.{answer_of, contents, Gives, Reads}
+use Rattle.std.specs.Prelude.{Result, Ok, Err}
+use Rattle.file.specs.declared.FileRefusal.{FileRefusal}
+use Rattle.file.specs.declared.FileRefusal.TheVariants.{LeftOver}
+use Rattle.file.specs.Fields.{Field, field_at}
+use Rattle.file.specs.Files.{Taken, taken, refused, onto, after, fields, records_of}
+use Rattle.file.specs.Answers.{Answer, answer_of, contents, Gives}
 use Rattle.file.specs.Steps.{is_taken, end_of}
 
 -- ---- how many
@@ -49,79 +43,46 @@ fields-length s k (suc m) at h = go (field_at s k at) (λ next. fields-length s 
         → length_of (fields s (suc k) m next) ≡ m)
         → is_taken (after f (λ next. fields s (suc k) m next)) ≡ true
         → length_of (after f (λ next. fields s (suc k) m next)) ≡ suc m
-    go (field.Value z next) ih e = longer z (fields s (suc k) m next) m (ih next) e
-    go (field.Refused r) ih e = absurd (true≢false (sym e))
+    go (Ok (z, next)) ih e = longer z (fields s (suc k) m next) m (ih next) e
+    go (Err r) ih e = absurd (true≢false (sym e))
 
 -- ---- where they end
 
-not_at : {r : Refusal} {at : ℕ} → end.Refused r ≡ end.At at → ⊥
+not_at : {r : FileRefusal} {at : ℕ} → ◌≡◌ {A = Result ℕ FileRefusal} (Err r) (Ok at) → ⊥
 not_at e = let o : ◌≡◌ {A = ℕ} 0 1 = cc in omega arith
 
-end_of-at : (t : Taken) (at : ℕ) → end_of t ≡ end.At at → (zs : List ℤ) × (t ≡ taken zs at)
+end_of-at : (t : Taken) (at : ℕ) → end_of t ≡ Ok at → (zs : List ℤ) × (t ≡ taken zs at)
 end_of-at (taken zs from) at e = (zs, cc)
 end_of-at (refused r) at e = absurd (not_at e)
 
-end_of-refused : (t : Taken) (r : Refusal) → end_of t ≡ end.Refused r → t ≡ refused r
+end_of-refused : (t : Taken) (r : FileRefusal) → end_of t ≡ Err r → t ≡ refused r
 end_of-refused (taken zs from) r e = absurd (not_at (sym e))
 end_of-refused (refused q) r e = cc
 
-pub end_of-taken : (t : Taken) {at : ℕ} {e : End} → e ≡ end_of t → e ≡ end.At at → is_taken t ≡ true
+pub end_of-taken : (t : Taken) {at : ℕ} {e : Result ℕ FileRefusal} → e ≡ end_of t → e ≡ Ok at → is_taken t ≡ true
 end_of-taken t {at} h e = rw (end_of-at t at (sym h ∙ e)).1 refl
 
 -- ---- the records
 
-module _ (s : List ℕ) (n from : ℕ) (lent : List ℤ) {e : End} (is : e ≡ end_of (fields s 0 (width * n) from)) where
-  pub records-left-over : {at : ℕ} {a : Answer} → e ≡ end.At at → at < length s → a ≡ answer_of (refused_by 34 at)
+module _ (s : List ℕ) (n from : ℕ) (lent : List ℤ) {e : Result ℕ FileRefusal}
+    (is : e ≡ end_of (fields s 0 (width * n) from)) where
+  pub records-left-over : {at : ℕ} {a : Answer} → e ≡ Ok at → at < length s → a ≡ answer_of (refused (LeftOver at))
       → Gives (records_of s n from) lent lent a
   records-left-over {at} h over a =
       let t = fields s 0 (width * n) from in
       rw ((end_of-at t at (sym is ∙ h)).1, lt-ltb at (length s) over) (record { says = a; leaves = refl })
 
-  pub records-refused : {r : Refusal} → e ≡ end.Refused r → Gives (records_of s n from) lent lent (answer.Refused r)
+  pub records-refused : {r : FileRefusal} → e ≡ Err r → Gives (records_of s n from) lent lent (Err r)
   records-refused {r} h =
       rw (end_of-refused (fields s 0 (width * n) from) r (sym is ∙ h)) (record { says = refl; leaves = refl })
 
-  pub records-read : {at : ℕ} {out : List ℤ} → e ≡ end.At at → length s ≤ at
-      → out ≡ contents (fields s 0 (width * n) from) lent → Gives (records_of s n from) lent out (answer.Records n)
+  pub records-read : {at : ℕ} {out : List ℤ} → e ≡ Ok at → length s ≤ at
+      → out ≡ contents (fields s 0 (width * n) from) lent → Gives (records_of s n from) lent out (Ok n)
   records-read {at} h over w =
       let t = fields s 0 (width * n) from in
       let whole = (end_of-at t at (sym is ∙ h)).1 in
       let long = rw whole at (fields-length s 0 (width * n) from (end_of-taken t is h)) in
       rw (whole, le-ltb at (length s) over)
-      (record { says = ap answer.Records (omega (arith, long)); leaves = rw whole at w })
+      (record { says = ap Ok (omega (arith, long)); leaves = rw whole at w })
 
--- ---- the file
-
-module _ (s : List ℕ) (lent : List ℤ) {c : Number} (is : c ≡ number_at s 0) where
-  pub file-refused : {r : Refusal} → c ≡ number.Refused r
-      → Reads s lent lent (answer.Refused r)
-  unfolding file_of
-  file-refused h = rw (← is, h) (record { says = refl; leaves = refl })
-
-  module _ {n next : ℕ} (h : c ≡ number.Value n next) {a : Answer} where
-    pub file-above : (k : ℕ) → limit ≤ k → k < n → a ≡ answer_of (refused_by 35 0)
-        → Reads s lent lent a
-    unfolding file_of
-    file-above k l g e = rw (← is, h, lt-ltb limit n (omega arith)) (record { says = e; leaves = refl })
-
-    pub file-short : n ≤ limit → length lent < width * n → a ≡ answer_of (refused_by 36 0)
-        → Reads s lent lent a
-    unfolding file_of
-    file-short l m e =
-        rw (← is, h, le-ltb limit n l, lt-ltb (length lent) (width * n) m) (record { says = e; leaves = refl })
-
-    pub file-records : {out : List ℤ} → n ≤ limit → width * n ≤ length lent → Gives (records_of s n next) lent out a
-        → Reads s lent out a
-    unfolding file_of
-    file-records l m e = rw (← is, h, le-ltb limit n l, le-ltb (length lent) (width * n) m) e
-
-pub ruleset reading = (
-  end_of-taken,
-  records-left-over,
-  records-refused,
-  records-read,
-  file-refused,
-  file-above,
-  file-short,
-  file-records,
-)
+pub ruleset reading = (end_of-taken, records-left-over, records-refused, records-read)

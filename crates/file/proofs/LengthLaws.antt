@@ -17,10 +17,8 @@ use lib.ListN.{length}
 use borrow.Author.Tests.{eq-eqb, ne_eqb}
 use Rattle.record.specs.Records.{width}
 use Rattle.chart.specs.Verdicts.{limit}
-use Rattle.file.specs.declared.Field.TheVariants.{Value}
-use Rattle.number.specs.declared.Number.TheVariants as number
-use Rattle.number.specs.Numbers.{number_at}
-use Rattle.file.specs.Fields.{is_mark, field_at}
+use Rattle.number.specs.Numbers.{got, number_at}
+use Rattle.file.specs.Fields.{put, is_mark, field_at}
 use Rattle.file.specs.Files.{taken, fields, file_of}
 use Rattle.number.proofs.SizeLaws.{number_in-size}
 use Rattle.file.proofs.StepLaws.{Takes, field_at-next, fields-step}
@@ -68,7 +66,7 @@ most-records i (suc n) =
 -- ---- numbers that are taken
 
 -- one number takes no more than its size
-pub field_at-size : (s : List ℕ) (k at : ℕ) (z : ℤ) (next : ℕ) → field_at s k at ≡ Value z next → next ≤ at + size k
+pub field_at-size : (s : List ℕ) (k at : ℕ) (z : ℤ) (next : ℕ) → field_at s k at ≡ put z next → next ≤ at + size k
 field_at-size s k at z next e = go (is_mark k) refl (field_at-next s k at z next e)
   where
     go : (t : Bool) → is_mark k ≡ t → Takes s k at next → next ≤ at + cond t 1 3
@@ -93,7 +91,7 @@ records-next s n at end zs e = omega (arith, fields-next s 0 (width * n) at end 
 -- ---- a file that is taken
 
 -- a count of 512 or less takes no more than two
-pub count_next : (s : List ℕ) (n next : ℕ) → number_at s 0 ≡ number.Value n next → n ≤ limit → next ≤ 2
+pub count_next : (s : List ℕ) (n next : ℕ) → number_at s 0 ≡ got n next → n ≤ limit → next ≤ 2
 count_next s n next e l = (number_in-size s 0 n next e).two (omega arith)
 
 -- no longer file is taken

@@ -17,8 +17,7 @@ use Rattle.counts.specs.Count.{all}
 use Rattle.counts.proofs.TestLaws.{and_intro}
 use Rattle.record.specs.Records.{width}
 use Rattle.chart.specs.Verdicts.{limit}
-use Rattle.number.specs.declared.Number.TheVariants.{Value}
-use Rattle.number.specs.Numbers.{number_at}
+use Rattle.number.specs.Numbers.{got, number_at}
 use Rattle.number.specs.Groups.{first_group}
 use Rattle.file.specs.Files.{taken, fields, whole, counted, file_of}
 use Rattle.number.proofs.NumberLaws.{number_in-groups}
@@ -43,13 +42,13 @@ long_file-bytes n l =
 -- ---- it is taken
 
 -- the count is read from its two bytes
-count-taken : (n : ℕ) → 128 ≤ n → n < 16384 → number_at (long_file n) 0 ≡ Value n 2
+count-taken : (n : ℕ) → 128 ≤ n → n < 16384 → number_at (long_file n) 0 ≡ got n 2
 unfolding long_file first_group
 count-taken n a b =
     let on = le-leb 128 (n % 128 + 128) (omega arith) in
     let last = lt-leb 128 (n / 128) (omega arith) in
     let more = ne_eqb (n / 128) 0 (λ e. omega arith) in
-    rw (number_in-groups (long_file n) 0, on, last, more) (ap (λ m. Value m 2) (omega arith))
+    rw (number_in-groups (long_file n) 0, on, last, more) (ap (λ m. got m 2) (omega arith))
 
 -- the records after it are taken
 all-taken : (n : ℕ) → fields (long_file n) 0 (width * n) 2 ≡ taken (many_numbers n) (2 + 13 * n)

@@ -17,9 +17,8 @@ use lib.Seq.{drop-drop}
 use borrow.Author.Tests.{eq-eqb, ne_eqb}
 use Rattle.counts.specs.Count.{all}
 use Rattle.record.specs.Records.{width}
-use Rattle.file.specs.declared.Field.TheVariants.{Value}
 use Rattle.number.specs.Numbers.{signed, number_in}
-use Rattle.file.specs.Fields.{field, field_in, field_at}
+use Rattle.file.specs.Fields.{put, coordinate_for, number_for, field, field_in, field_at}
 use Rattle.number.specs.Groups.{first_group}
 use Rattle.file.specs.Files.{taken, onto, after, fields}
 use Rattle.number.proofs.NumberLaws.{number_in-groups}
@@ -52,8 +51,8 @@ many-bytes (suc n) = many-bytes n
 module _ (s bs : List ℕ) (k at : ℕ) where
   -- a coordinate, and the bytes after it
   coordinate-taken : k % width < 4 → drop at s ≡ 255 ∷ 255 ∷ 3 ∷ bs
-      → (field_at s k at ≡ Value (negsuc 32767) (at + 3)) × (drop (at + 3) s ≡ bs)
-  unfolding first_group field signed
+      → (field_at s k at ≡ put (negsuc 32767) (at + 3)) × (drop (at + 3) s ≡ bs)
+  unfolding first_group field number_for coordinate_for signed
   coordinate-taken l e = (
     ap (λ bs. field_in k at (number_in bs at)) e
         ∙ rw (number_in-groups (255 ∷ 255 ∷ 3 ∷ bs) at, ne_eqb (k % width) 4 (λ h. omega arith)),
@@ -62,15 +61,15 @@ module _ (s bs : List ℕ) (k at : ℕ) where
 
   -- a mark, and the bytes after it
   mark-taken : k % width ≡ 4 → drop at s ≡ 1 ∷ bs
-      → (field_at s k at ≡ Value (pos 1) (at + 1)) × (drop (at + 1) s ≡ bs)
-  unfolding first_group field
+      → (field_at s k at ≡ put (pos 1) (at + 1)) × (drop (at + 1) s ≡ bs)
+  unfolding first_group field number_for
   mark-taken h e = (
     ap (λ bs. field_in k at (number_in bs at)) e ∙ rw (number_in-groups (1 ∷ bs) at, eq-eqb (k % width) 4 h),
     sym (drop-drop 1 at s) ∙ ap (drop 1) e,
   )
 
 -- a number that is taken, before others that are
-fields-first : (s : List ℕ) (k m at : ℕ) {z : ℤ} {next : ℕ} {zs : List ℤ} {end : ℕ} → field_at s k at ≡ Value z next
+fields-first : (s : List ℕ) (k m at : ℕ) {z : ℤ} {next : ℕ} {zs : List ℤ} {end : ℕ} → field_at s k at ≡ put z next
     → fields s (suc k) m next ≡ taken zs end → fields s k (suc m) at ≡ taken (z ∷ zs) end
 unfolding fields
 fields-first s k m at {z} e h = ap (λ x. after x (fields s (suc k) m)) e ∙ ap (onto z) h

@@ -16,11 +16,9 @@ use lib.Seq.{drop-cons, take-suc-set, drop-set-lt, append_snoc}
 use mir.Syntax.{w16}
 use mir.Val.{SFits, to_z, of_z}
 use mir.ValLaws.{to_z-of_z}
-use Rattle.chart.specs.declared.Refusal.{Refusal}
-use Rattle.file.specs.declared.Field.{Field}
-use Rattle.file.specs.declared.Field.TheVariants.{Value, Refused}
-use Rattle.file.specs.declared.End.TheVariants as end
-use Rattle.file.specs.Fields.{field_at}
+use Rattle.std.specs.Prelude.{Ok, Err}
+use Rattle.file.specs.declared.FileRefusal.{FileRefusal}
+use Rattle.file.specs.Fields.{Field, put, field_at}
 use Rattle.file.specs.Files.{Taken, taken, refused, onto, fields}
 use Rattle.file.specs.Answers.{contents}
 use Rattle.file.specs.Steps.{is_taken, end_of}
@@ -31,12 +29,12 @@ module _ (s : List ℕ) (k m at : ℕ) {f : Field} (h : k < m) (is : f ≡ field
   left : m - k ≡ suc (m - (k + 1))
   left = omega arith
 
-  pub fields_value : {z : ℤ} {next : ℕ} → f ≡ Value z next
+  pub fields_value : {z : ℤ} {next : ℕ} → f ≡ put z next
       → fields s k (m - k) at ≡ onto z (fields s (k + 1) (m - (k + 1)) next)
   unfolding fields
   fields_value e = rw (left, ← is, e, add-one k) refl
 
-  pub fields-refused : {r : Refusal} → f ≡ Refused r → fields s k (m - k) at ≡ refused r
+  pub fields-refused : {r : FileRefusal} → f ≡ Err r → fields s k (m - k) at ≡ refused r
   unfolding fields
   fields-refused e = rw (left, ← is, e) refl
 
@@ -79,15 +77,15 @@ module _ (s : List ℕ) (m from : ℕ) where
   passing-none = record { low = omega arith; is = rw (sub-zero m) refl }
 
   module _ {at k : ℕ} {f : Field} (p : Passing s m from at k) (h : k < m) (is : f ≡ field_at s k at) where
-    pub passing-more : {z : ℤ} {next : ℕ} → f ≡ Value z next → Passing s m from next (k + 1)
+    pub passing-more : {z : ℤ} {next : ℕ} → f ≡ put z next → Passing s m from next (k + 1)
     passing-more {z} {next} e =
         let rest = fields s (k + 1) (m - (k + 1)) next in
         record { low = omega arith; is = p.is ∙ ap end_of (fields_value s k m at h is e) ∙ end_of-onto z rest }
 
-    pub passing-refused : {r : Refusal} → f ≡ Refused r → end.Refused r ≡ end_of (fields s 0 m from)
+    pub passing-refused : {r : FileRefusal} → f ≡ Err r → Err r ≡ end_of (fields s 0 m from)
     passing-refused e = sym (p.is ∙ ap end_of (fields-refused s k m at h is e))
 
-  pub passing-all : {at k : ℕ} → Passing s m from at k → m ≤ k → end.At at ≡ end_of (fields s 0 m from)
+  pub passing-all : {at k : ℕ} → Passing s m from at k → m ≤ k → Ok at ≡ end_of (fields s 0 m from)
   unfolding fields
   passing-all {at} {k} p h = let none : m - k ≡ 0 = omega arith in sym (rw (none) at p.is)
 
@@ -108,7 +106,7 @@ module _ (s : List ℕ) (m from : ℕ) (lent : List ℤ) where
 
   module _ {out : List ℤ} {at k : ℕ} {f : Field} (p : Filling s m from lent out at k) (h : k < m)
       (is : f ≡ field_at s k at) where
-    pub filling-more : {z : ℤ} {next : ℕ} → f ≡ Value z next → SFits w16 z
+    pub filling-more : {z : ℤ} {next : ℕ} → f ≡ put z next → SFits w16 z
         → Filling s m from lent (set out k (to_z w16 (of_z w16 z))) next (k + 1)
     filling-more {z} {next} e fits =
         let more = fields s (k + 1) (m - (k + 1)) next in
@@ -123,7 +121,7 @@ module _ (s : List ℕ) (m from : ℕ) (lent : List ℤ) where
           is = p.is ∙ rw now (store out k z more (omega (arith, p.room)) rest);
         })
 
-    pub filling-never : {r : Refusal} → f ≡ Refused r → out ≡ contents (fields s 0 m from) lent
+    pub filling-never : {r : FileRefusal} → f ≡ Err r → out ≡ contents (fields s 0 m from) lent
     filling-never e = absurd (true≢false (sym p.rest ∙ ap is_taken (fields-refused s k m at h is e)))
 
   pub filling-all : {out : List ℤ} {at k : ℕ} → Filling s m from lent out at k → m ≤ k

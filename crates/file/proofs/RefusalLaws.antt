@@ -13,24 +13,24 @@ use mathlib.Core.List.{List}
 use Prim.Native.Nat.{ℕ, zero, suc, ◌+◌, ◌*◌, ◌<◌, ◌≤◌, zero-le}
 use native.Mathlib.Omega.{arith}
 use lib.Dec.{leb, ltb, eqb}
-use lib.IntN.{ℤ, pos}
+use lib.IntN.{ℤ}
 use lib.ListN.{length, get_or, take, drop, length-drop}
 use borrow.Author.Tests.{ltb-false, ne_eqb}
 use Rattle.counts.specs.Count.{any}
 use Rattle.counts.proofs.TestLaws.{lt-or-le}
-use Rattle.grid.specs.Coordinates.{on_grid}
 use Rattle.record.specs.Records.{width}
 use Rattle.chart.specs.declared.Refusal.{Refusal}
 use Rattle.chart.specs.Verdicts.{limit}
-use Rattle.file.specs.declared.Field.{Field}
-use Rattle.file.specs.declared.Field.TheVariants as field
-use Rattle.number.specs.declared.Number.{Number}
-use Rattle.number.specs.declared.Number.TheVariants as number
-use Rattle.number.specs.Numbers.{last_of, value_of, refused as stopped, number_in, number_at, signed}
-use Rattle.file.specs.Fields.{refused as unfit, is_mark, coordinate, field, field_in, field_at}
-use Rattle.file.specs.Files.{Taken, taken, refused, refused_by, onto, after, fields, whole, records_of, counted}
+use Rattle.std.specs.Prelude.{Option, Some, None, Ok, Err}
+use Rattle.number.specs.declared.NumberRefusal.TheVariants.{Ends, Overlong}
+use Rattle.file.specs.declared.FileRefusal.{FileRefusal}
+use Rattle.file.specs.declared.FileRefusal.TheVariants.{LeftOver, TooMany, NoRoom}
+use Rattle.number.specs.Numbers as number
+use Rattle.number.specs.Numbers.{Number, got, last_of, value_of, number_in, number_at, signed}
+use Rattle.file.specs.Fields.{Field, number_for, fit, field, field_in, field_at}
+use Rattle.file.specs.Files.{Taken, taken, refused, onto, after, fields, whole, records_of, counted}
 use Rattle.file.specs.Files.{file_of}
-use Rattle.file.specs.Answers.{is_file_refusal}
+use Rattle.file.specs.Answers.{told, is_file_refusal}
 use Rattle.number.proofs.SizeLaws.{number_in-size}
 use Rattle.file.proofs.TakenLaws.{file_of-parts}
 use Rattle.file.proofs.LengthLaws.{most, most-records, field_at-size, count_next}
@@ -64,8 +64,8 @@ numbers k e = go (lt-or-le 36 k)
     go (inr l) = l
 
 -- a refusal of one of these numbers at a place of the file
-told : (s : List ℕ) (k at : ℕ) → is_file_refusal k ≡ true → InFile s at → Told s (record { number = k; index = at })
-told s k at h l = record { number = h; place = l }
+placed : (s : List ℕ) (k at : ℕ) → is_file_refusal k ≡ true → InFile s at → Told s (record { number = k; index = at })
+placed s k at h l = record { number = h; place = l }
 
 first-place : (s : List ℕ) → InFile s 0
 first-place s = record { within = zero-le; near = zero-le }
@@ -74,13 +74,13 @@ module _ (s : List ℕ) where
   -- ---- one number
 
   abbrev NumberTold : Number → Type 0
-  NumberTold (number.Value n next) = next ≤ length s
-  NumberTold (number.Refused r) = Told s r
+  NumberTold (Ok (n, next)) = next ≤ length s
+  NumberTold (Err r) = Told s (number.told r)
 
   -- of a number that is not refused nothing is said yet
   abbrev NumberLeft : ℕ → Number → Type 0
-  NumberLeft at (number.Value n next) = InFile s at
-  NumberLeft at (number.Refused r) = Told s r
+  NumberLeft at (Ok x) = InFile s at
+  NumberLeft at (Err r) = Told s (number.told r)
 
   number-left : (at : ℕ) → InFile s at → NumberLeft at (number_at s at)
   unfolding number_in any
@@ -90,49 +90,46 @@ module _ (s : List ℕ) where
       go (ltb 2 k) (leb (length bs) k) (ltb 0 k && eqb (get_or bs k 0) 0) (value_of (take (k + 1) bs)) (at + (k + 1))
     where
       go : (a b c : Bool) (n next : ℕ) → NumberLeft at
-          (cond a (stopped 32 at) (cond b (stopped 31 at) (cond c (stopped 32 at) (number.Value n next))))
-      go true b c n next = told s 32 at refl l
-      go false true c n next = told s 31 at refl l
-      go false false true n next = told s 32 at refl l
+          (cond a (Err (Overlong at)) (cond b (Err (Ends at)) (cond c (Err (Overlong at)) (got n next))))
+      go true b c n next = placed s 32 at refl l
+      go false true c n next = placed s 31 at refl l
+      go false false true n next = placed s 32 at refl l
       go false false false n next = l
 
   number-told : (at : ℕ) → InFile s at → NumberTold (number_at s at)
   number-told at l = go (number_at s at) refl (number-left at l)
     where
       go : (x : Number) → number_at s at ≡ x → NumberLeft at x → NumberTold x
-      go (number.Value n next) e h =
+      go (Ok (n, next)) e h =
           omega (arith, h.within, (number_in-size (drop at s) at n next e).within, length-drop at s)
-      go (number.Refused r) e h = h
+      go (Err r) e h = h
 
   -- ---- one number for the array
 
   abbrev FieldTold : Field → Type 0
-  FieldTold (field.Value z next) = next ≤ length s
-  FieldTold (field.Refused r) = Told s r
+  FieldTold (Ok (z, next)) = next ≤ length s
+  FieldTold (Err r) = Told s (told r)
 
   field_told : (k n at next : ℕ) → InFile s at → next ≤ length s → FieldTold (field k n at next)
-  unfolding field coordinate any
-  field_told k n at next l h = go (is_mark k) (leb n 1) (on_grid (signed n))
+  unfolding field any
+  field_told k n at next l h = go (number_for k n)
     where
-      go : (m b c : Bool) → FieldTold (cond m (cond b (field.Value (pos n) next) (unfit at))
-          (cond c (field.Value (signed n) next) (unfit at)))
-      go true true c = h
-      go true false c = told s 33 at refl l
-      go false b true = h
-      go false b false = told s 33 at refl l
+      go : (o : Option ℤ) → FieldTold (fit o at next)
+      go (Some z) = h
+      go None = placed s 33 at refl l
 
   field_at-told : (k at : ℕ) → InFile s at → FieldTold (field_at s k at)
   field_at-told k at l = go (number_at s at) (number-told at l)
     where
       go : (x : Number) → NumberTold x → FieldTold (field_in k at x)
-      go (number.Value n next) h = field_told k n at next l h
-      go (number.Refused r) h = h
+      go (Ok (n, next)) h = field_told k n at next l h
+      go (Err r) h = h
 
   -- ---- a file
 
   abbrev TakenTold : Taken → Type 0
   TakenTold (taken zs end) = InFile s end
-  TakenTold (refused r) = Told s r
+  TakenTold (refused r) = Told s (told r)
 
   fields_told : (k m at : ℕ) → at ≤ length s → at + most k m ≤ 2 + 13 * limit → TakenTold (fields s k m at)
   unfolding fields most
@@ -150,17 +147,17 @@ module _ (s : List ℕ) where
           → ((next : ℕ) → next ≤ length s → next + most (suc k) m ≤ 2 + 13 * limit
           → TakenTold (fields s (suc k) m next))
           → TakenTold (after x (λ next. fields s (suc k) m next))
-      go (field.Value z next) e g rest =
+      go (Ok (z, next)) e g rest =
           let near = field_at-size s k at z next e in
           one_more z (fields s (suc k) m next) (rest next g (omega arith))
-      go (field.Refused r) e g rest = g
+      go (Err r) e g rest = g
 
   whole-told : (t : Taken) → TakenTold t → TakenTold (whole s t)
   unfolding any
   whole-told (taken zs end) h = go (ltb end (length s))
     where
-      go : (b : Bool) → TakenTold (cond b (refused_by 34 end) (taken zs end))
-      go true = told s 34 end refl h
+      go : (b : Bool) → TakenTold (cond b (refused (LeftOver end)) (taken zs end))
+      go true = placed s 34 end refl h
       go false = h
   whole-told (refused r) h = h
 
@@ -168,10 +165,10 @@ module _ (s : List ℕ) where
   unfolding file_of any
   file-told room = by-count (number_at s 0) refl (number-told 0 (first-place s))
     where
-      by_tests : (a b : Bool) (n next : ℕ) → ltb limit n ≡ a → number_at s 0 ≡ number.Value n next → next ≤ length s
-          → TakenTold (cond a (refused_by 35 0) (cond b (refused_by 36 0) (records_of s n next)))
-      by_tests true b n next few e h = told s 35 0 refl (first-place s)
-      by_tests false true n next few e h = told s 36 0 refl (first-place s)
+      by_tests : (a b : Bool) (n next : ℕ) → ltb limit n ≡ a → number_at s 0 ≡ got n next → next ≤ length s
+          → TakenTold (cond a (refused TooMany) (cond b (refused NoRoom) (records_of s n next)))
+      by_tests true b n next few e h = placed s 35 0 refl (first-place s)
+      by_tests false true n next few e h = placed s 36 0 refl (first-place s)
       by_tests false false n next few e h =
           let l = ltb-false limit n few in
           let near = count_next s n next e l in
@@ -179,10 +176,10 @@ module _ (s : List ℕ) where
           whole-told (fields s 0 (width * n) next) (fields_told 0 (width * n) next h (omega arith))
 
       by-count : (x : Number) → number_at s 0 ≡ x → NumberTold x → TakenTold (counted s room x)
-      by-count (number.Value n next) e h = by_tests (ltb limit n) (ltb room (width * n)) n next refl e h
-      by-count (number.Refused r) e h = h
+      by-count (Ok (n, next)) e h = by_tests (ltb limit n) (ltb room (width * n)) n next refl e h
+      by-count (Err r) e h = h
 
-  pub file_of-told : (room : ℕ) {r : Refusal} → file_of s room ≡ refused r → Told s r
+  pub file_of-told : (room : ℕ) {r : FileRefusal} → file_of s room ≡ refused r → Told s (told r)
   file_of-told room e = subst TakenTold e (file-told room)
 
   -- a file that is taken is read to its end

@@ -3,7 +3,8 @@
 --     Takes s k at next, field_at-next   of the number at the place `at` that the array gets at its place k
 --     Step s k m at end zs, fields-step    of one number and m more: the first is taken, and so are the others
 -- Assumes nothing.
-use mathlib.Core.Path.{◌≡◌, refl, sym, ◌∙◌}
+use mathlib.Core.Path.{◌≡◌, refl, sym, ap, ◌∙◌}
+use Rattle.std.specs.Prelude.{Option, Some, None, Ok, Err, is_some}
 use mathlib.Core.Bool.{Bool, true, false, cond, true≢false}
 use mathlib.Core.List.{List, ◌∷◌}
 use Prim.Native.Nat.{ℕ, suc, ◌+◌, ◌<◌, ◌≤◌}
@@ -12,24 +13,26 @@ use lib.Dec.{leb}
 use lib.IntN.{ℤ, pos}
 use lib.ListN.{length, drop, length-drop}
 use borrow.Author.Tests.{leb-true}
-use Rattle.grid.specs.Coordinates.{on_grid}
-use Rattle.chart.specs.declared.Refusal.{Refusal}
-use Rattle.file.specs.declared.Field.{Field}
-use Rattle.file.specs.declared.Field.TheVariants.{Value, Refused}
-use Rattle.number.specs.declared.Number.{Number}
-use Rattle.number.specs.declared.Number.TheVariants as number
-use Rattle.number.specs.Numbers.{number_at, signed}
-use Rattle.file.specs.Fields as unfit
-use Rattle.file.specs.Fields.{coordinate, mark, is_mark, field, field_in, field_at}
+use Rattle.file.specs.declared.FileRefusal.{FileRefusal}
+use Rattle.number.specs.Numbers.{Number, number_at}
+use Rattle.file.specs.Fields.{Field, put, coordinate_for, mark_for, is_mark, number_for, fit, field, field_in, field_at}
 use Rattle.file.specs.Files.{Taken, taken, refused, onto, after, fields}
 use Rattle.number.proofs.SizeLaws.{number_in-size}
 
+-- two numbers for the array that are one are one after the other
+abbrev parts : Field → ℤ × ℕ
+parts (Ok x) = x
+parts (Err r) = (pos 0, 0)
+
+put-one : {y z : ℤ} {end next : ℕ} → put y end ≡ put z next → end ≡ next
+put-one e = ap (λ f. (parts f).1) e
+
 -- a refusal is no number for the array
-not-value : {r : Refusal} {z : ℤ} {next : ℕ} → Refused r ≡ Value z next → ⊥
+not-value : {r : FileRefusal} {z : ℤ} {next : ℕ} → ◌≡◌ {A = Field} (Err r) (put z next) → ⊥
 not-value e = let o : ◌≡◌ {A = ℕ} 0 1 = cc in omega arith
 
 -- numbers that are refused are not taken
-pub not_taken : {r : Refusal} {zs : List ℤ} {end : ℕ} → refused r ≡ taken zs end → ⊥
+pub not_taken : {r : FileRefusal} {zs : List ℤ} {end : ℕ} → refused r ≡ taken zs end → ⊥
 not_taken e = let o : ◌≡◌ {A = ℕ} 0 1 = cc in omega arith
 
 -- ---- one number for the array
@@ -40,30 +43,32 @@ pub record Takes (s : List ℕ) (k at next : ℕ) : Type 0 where
   pub most : next ≤ at + 3
   pub mark : is_mark k ≡ true → next ≡ at + 1
 
--- a test that stands before a value was passed
-fit : (t : Bool) (y z : ℤ) (at end next : ℕ) → cond t (Value y end) (unfit.refused at) ≡ Value z next
-    → (t ≡ true) × (end ≡ next)
-fit true y z at end next e = (refl, cc)
-fit false y z at end next e = absurd (not-value e)
+-- a number that fits is the number put
+fit-put : (o : Option ℤ) (z : ℤ) (at end next : ℕ) → fit o at end ≡ put z next → (is_some o ≡ true) × (end ≡ next)
+fit-put (Some y) z at end next e = (refl, put-one e)
+fit-put None z at end next e = absurd (not-value e)
 
 -- a mark is at most 1
-field_next : (k n at end : ℕ) (z : ℤ) (next : ℕ) → field k n at end ≡ Value z next
-    → (end ≡ next) × (is_mark k ≡ true → n ≤ 1)
-unfolding field
-field_next k n at end z next e = go (is_mark k) refl e
+mark_small : (n : ℕ) → is_some (mark_for n) ≡ true → n ≤ 1
+mark_small n h = go (leb n 1) refl h
   where
-    go : (t : Bool) → is_mark k ≡ t → cond t (mark n at end) (coordinate n at end) ≡ Value z next
-        → (end ≡ next) × (is_mark k ≡ true → n ≤ 1)
-    go true h e = let w = fit (leb n 1) (pos n) z at end next e in (w.1, λ t. leb-true n 1 w.0)
-    go false h e =
-        let w = fit (on_grid (signed n)) (signed n) z at end next e in (w.1, λ t. absurd (true≢false (sym t ∙ h)))
+    go : (t : Bool) → leb n 1 ≡ t → is_some (cond t (Some (pos n)) None) ≡ true → n ≤ 1
+    go true e h = leb-true n 1 e
+    go false e h = absurd (true≢false (sym h))
+
+field_next : (k n at end : ℕ) (z : ℤ) (next : ℕ) → field k n at end ≡ put z next
+    → (end ≡ next) × (is_mark k ≡ true → n ≤ 1)
+unfolding field number_for
+field_next k n at end z next e =
+    let w = fit-put (number_for k n) z at end next e in
+    (w.1, λ t. mark_small n (ap (λ b. is_some (cond b (mark_for n) (coordinate_for n))) (sym t) ∙ w.0))
 
 -- a number that the array gets has a byte at the least and three at the most, all in the file; a mark has one
-pub field_at-next : (s : List ℕ) (k at : ℕ) (z : ℤ) (next : ℕ) → field_at s k at ≡ Value z next → Takes s k at next
+pub field_at-next : (s : List ℕ) (k at : ℕ) (z : ℤ) (next : ℕ) → field_at s k at ≡ put z next → Takes s k at next
 field_at-next s k at z next e = go (number_at s at) refl e
   where
-    go : (x : Number) → number_at s at ≡ x → field_in k at x ≡ Value z next → Takes s k at next
-    go (number.Value n end) h e =
+    go : (x : Number) → number_at s at ≡ x → field_in k at x ≡ put z next → Takes s k at next
+    go (Ok (n, end)) h e =
         let v = field_next k n at end z next e in
         let w = number_in-size (drop at s) at n end h in
         let d = length-drop at s in
@@ -73,7 +78,7 @@ field_at-next s k at z next e = go (number_at s at) refl e
           most = omega arith;
           mark = λ t. omega (arith, w.one (omega (arith, v.1 t)));
         }
-    go (number.Refused r) h e = absurd (not-value e)
+    go (Err r) h e = absurd (not-value e)
 
 -- ---- numbers one after another
 
@@ -82,7 +87,7 @@ pub record Step (s : List ℕ) (k m at end : ℕ) (zs : List ℤ) : Type 0 where
   pub next : ℕ
   pub rest : List ℤ
   pub is : zs ≡ value ∷ rest
-  pub first : field_at s k at ≡ Value value next
+  pub first : field_at s k at ≡ put value next
   pub others : fields s (suc k) m next ≡ taken rest end
 
 -- the first number and the others after it
@@ -91,12 +96,12 @@ pub fields-step : (s : List ℕ) (k m at end : ℕ) (zs : List ℤ) → fields s
 unfolding fields
 fields-step s k m at end zs e = by_first (field_at s k at) refl e
   where
-    by-others : (z : ℤ) (next : ℕ) → field_at s k at ≡ Value z next → (t : Taken) → fields s (suc k) m next ≡ t
+    by-others : (z : ℤ) (next : ℕ) → field_at s k at ≡ put z next → (t : Taken) → fields s (suc k) m next ≡ t
         → onto z t ≡ taken zs end → Step s k m at end zs
     by-others z next h (taken ys last) g e =
         record { value = z; next = next; rest = ys; is = cc; first = h; others = cc }
     by-others z next h (refused r) g e = absurd (not_taken e)
 
     by_first : (x : Field) → field_at s k at ≡ x → after x (fields s (suc k) m) ≡ taken zs end → Step s k m at end zs
-    by_first (Value z next) h e = by-others z next h (fields s (suc k) m next) refl e
-    by_first (Refused r) h e = absurd (not_taken e)
+    by_first (Ok (z, next)) h e = by-others z next h (fields s (suc k) m next) refl e
+    by_first (Err r) h e = absurd (not_taken e)

@@ -11,25 +11,24 @@ use lib.IntN.{ℤ}
 use lib.ListN.{length}
 use borrow.Author.Tests.{ltb-false}
 use Rattle.record.specs.Records.{width}
-use Rattle.chart.specs.declared.Refusal.{Refusal}
+use Rattle.std.specs.Prelude.{Ok, Err}
+use Rattle.file.specs.declared.FileRefusal.{FileRefusal}
 use Rattle.chart.specs.Verdicts.{limit}
-use Rattle.number.specs.declared.Number.{Number}
-use Rattle.number.specs.declared.Number.TheVariants as number
-use Rattle.number.specs.Numbers.{number_at}
+use Rattle.number.specs.Numbers.{Number, got, number_at}
 use Rattle.file.specs.Files.{Taken, taken, refused, fields, whole, counted, file_of}
 use Rattle.file.proofs.StepLaws.{not_taken}
 
 pub record Parts (s : List ℕ) (room end : ℕ) (zs : List ℤ) : Type 0 where
   pub count : ℕ
   pub first : ℕ
-  pub counts : number_at s 0 ≡ number.Value count first
+  pub counts : number_at s 0 ≡ got count first
   pub few : count ≤ limit
   pub fits : width * count ≤ room
   pub records : fields s 0 (width * count) first ≡ taken zs end
   pub ends : length s ≤ end
 
 -- a test that stands before a refusal was not passed
-not-refused : (t : Bool) (r : Refusal) (x : Taken) {zs : List ℤ} {end : ℕ} → cond t (refused r) x ≡ taken zs end
+not-refused : (t : Bool) (r : FileRefusal) (x : Taken) {zs : List ℤ} {end : ℕ} → cond t (refused r) x ≡ taken zs end
     → (t ≡ false) × (x ≡ taken zs end)
 not-refused true r x e = absurd (not_taken e)
 not-refused false r x e = (refl, e)
@@ -49,7 +48,7 @@ unfolding file_of
 file_of-parts s room end zs e = go (number_at s 0) refl e
   where
     go : (x : Number) → number_at s 0 ≡ x → counted s room x ≡ taken zs end → Parts s room end zs
-    go (number.Value n first) h e =
+    go (Ok (n, first)) h e =
         let a = not-refused (ltb limit n) _ _ e in
         let b = not-refused (ltb room (width * n)) _ _ a.1 in
         let c = whole-taken s (fields s 0 (width * n) first) b.1 in
@@ -62,4 +61,4 @@ file_of-parts s room end zs e = go (number_at s 0) refl e
           records = c.0;
           ends = c.1;
         }
-    go (number.Refused r) h e = absurd (not_taken e)
+    go (Err r) h e = absurd (not_taken e)

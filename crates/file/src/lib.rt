@@ -5,35 +5,58 @@
 ghost use Rattle.std.specs.Prelude.{◌≡◌, true, ◌*◌, ◌≤◌, length};
 ghost use Rattle.record.specs.Records.{width};
 ghost use Rattle.chart.specs.Verdicts.{limit};
-ghost use Rattle.file.specs.Fields.{refused, coordinate, mark, field, field_at};
-ghost use Rattle.file.specs.Files.{refused_by, fields, records_of};
-ghost use Rattle.file.specs.Answers.{answer_of, contents, Gives, Reads};
+ghost use Rattle.file.specs.declared.FileRefusal.TheVariants.{NoNumber};
+ghost use Rattle.file.specs.Fields.{coordinate_for, mark_for, number_for, field_at};
+ghost use Rattle.file.specs.Files.{fields, records_of};
+ghost use Rattle.file.specs.Answers.{told, contents, Gives, Reads};
 ghost use Rattle.file.specs.Steps.{is_taken, end_of};
 
 use chart::{LIMIT, Refusal};
-use grid::{Coord, Located};
-use number::Number;
+use grid::Coord;
+use number::NumberRefusal;
 use record::WIDTH;
 
-// What a file gives: how many records were read into the lent array, or why none were.
-#[derive(Clone, Copy)]
-pub enum Answer {
-    Records(usize),
-    Refused(Refusal),
+// Why a file is refused, with the place at fault where that is not the count's, the file's beginning.
+#[derive(Clone, Copy, Debug, PartialEq, Eq)]
+pub enum FileRefusal {
+    // 31, 32: no number stands there.
+    NoNumber(NumberRefusal),
+    // 33: a coordinate off the grid, or a mark above 1.
+    Unfit(usize),
+    // 34: bytes after the last record.
+    LeftOver(usize),
+    // 35: more records than a chart may have.
+    TooMany,
+    // 36: the lent array is too short for the records.
+    NoRoom,
 }
 
-// One number for the array, and the place of the next one in the file.
-#[derive(Clone, Copy)]
-enum Field {
-    Value { value: i16, next: usize },
-    Refused(Refusal),
+impl From<NumberRefusal> for FileRefusal {
+    ghost from_gives = { λ r e. e ≡ NoNumber r };
+
+    fn from(r: NumberRefusal) -> FileRefusal {
+        FileRefusal::NoNumber(r)
+    }
 }
 
-// Where the numbers of a file end.
-#[derive(Clone, Copy)]
-enum End {
-    At(usize),
-    Refused(Refusal),
+impl From<FileRefusal> for Refusal {
+    ghost from_gives = { λ r e. e ≡ told r };
+
+    fn from(r: FileRefusal) -> Refusal {
+        match r {
+            FileRefusal::NoNumber(n) => n.into(),
+            FileRefusal::Unfit(index) => Refusal { number: 33, index },
+            FileRefusal::LeftOver(index) => Refusal { number: 34, index },
+            FileRefusal::TooMany => Refusal {
+                number: 35,
+                index: 0,
+            },
+            FileRefusal::NoRoom => Refusal {
+                number: 36,
+                index: 0,
+            },
+        }
+    }
 }
 
 // The mark's place among the numbers of a record.
@@ -44,77 +67,54 @@ const GREATER_MARK: u32 = 1;
 
 // ---- one number for the array
 
-fn unfit(at: usize) -> Field
-    ensures { result ≡ refused at }
+#[tactic(auto, unfolding(crate::specs::Fields::coordinate_for, grid::specs::Coordinates::located))]
+fn coordinate_for(n: u32) -> Option<i16>
+    ensures { result ≡ coordinate_for n }
 {
-    Field::Refused(Refusal {
-        number: 33,
-        index: at,
-    })
+    Coord::of_wide(number::signed_of(n)).map(|c| c.v)
 }
 
-#[tactic(auto, unfolding(crate::specs::Fields::coordinate, grid::specs::Coordinates::located))]
-fn coordinate_of(n: u32, at: usize, next: usize) -> Field
-    ensures { result ≡ coordinate n at next }
+fn mark_for(n: u32) -> Option<i16>
+    ensures { result ≡ mark_for n }
 {
-    let z = Coord::of_wide(number::signed_of(n));
-    match z {
-        Located::On(c) => Field::Value { value: c.v, next },
-        Located::Off => unfit(at),
-    }
-}
-
-fn mark_of(n: u32, at: usize, next: usize) -> Field
-    ensures { result ≡ mark n at next }
-{
-    if GREATER_MARK < n {
-        return unfit(at);
-    }
-    Field::Value {
-        value: n as i16,
-        next,
-    }
+    (n <= GREATER_MARK).then(|| n as i16)
 }
 
 // What the number n of the file is at the place k of the array.
-#[tactic(auto, unfolding(crate::specs::Fields::field))]
-fn field_of(k: usize, n: u32, at: usize, next: usize) -> Field
-    ensures { result ≡ field k n at next }
+#[tactic(auto, unfolding(crate::specs::Fields::number_for))]
+fn number_for(k: usize, n: u32) -> Option<i16>
+    ensures { result ≡ number_for k n }
 {
     if k % WIDTH == MARK {
-        return mark_of(n, at, next);
+        return mark_for(n);
     }
-    coordinate_of(n, at, next)
+    coordinate_for(n)
 }
 
-fn field_at(bytes: &[u8], k: usize, at: usize) -> Field
+// One number for the place k of the array, and the place of the next one in the file.
+#[tactic(auto, using(crate::proofs::FieldLaws::fielding))]
+fn field_at(bytes: &[u8], k: usize, at: usize) -> Result<(i16, usize), FileRefusal>
     ensures { result ≡ field_at bytes.now k at }
 {
-    let n = number::take_number(bytes, at);
-    match n {
-        Number::Value { value, next } => field_of(k, value, at, next),
-        Number::Refused(r) => Field::Refused(r),
-    }
+    let (n, next) = number::take_number(bytes, at)?;
+    let z = number_for(k, n).ok_or(FileRefusal::Unfit(at))?;
+    Ok((z, next))
 }
 
-// ---- the numbers of the records: a first pass that writes nothing, and a second that refuses nothing
+// ---- the numbers of the records: a first pass that writes nothing, and a second that refuses nothing, so that a file
+// that is refused leaves the lent array as it was
 
 // Where m numbers from the place `from` on end, or the first refusal among them.
 #[tactic(auto, using(crate::proofs::PassLaws::passing))]
-fn end_of(bytes: &[u8], m: usize, from: usize) -> End
+fn end_of(bytes: &[u8], m: usize, from: usize) -> Result<usize, FileRefusal>
     ensures { result ≡ end_of (fields bytes.now 0 m from) }
 {
     let mut at = from;
-    let mut k = 0;
-    while k < m {
-        let f = field_at(bytes, k, at);
-        match f {
-            Field::Value { value, next } => at = next,
-            Field::Refused(r) => return End::Refused(r),
-        }
-        k += 1;
+    for k in 0..m {
+        let (_, next) = field_at(bytes, k, at)?;
+        at = next;
     }
-    End::At(at)
+    Ok(at)
 }
 
 // Writes m numbers from the place `from` on into the array; the first pass has seen that they can all be taken.
@@ -124,69 +124,44 @@ fn fill(bytes: &[u8], m: usize, from: usize, out: &mut [i16])
     ensures { out.new ≡ contents (fields bytes.now 0 m from) out.old }
 {
     let mut at = from;
-    let mut k = 0;
-    while k < m {
-        let f = field_at(bytes, k, at);
-        match f {
-            Field::Value { value, next } => {
-                out[k] = value;
-                at = next;
-            }
-            Field::Refused(r) => return,
-        }
-        k += 1;
+    for k in 0..m {
+        let Ok((z, next)) = field_at(bytes, k, at) else {
+            return;
+        };
+        out[k] = z;
+        at = next;
     }
 }
 
 // ---- the file
 
-fn refused(number: u16, place: usize) -> Answer
-    ensures { result ≡ answer_of (refused_by number place) }
-{
-    Answer::Refused(Refusal {
-        number,
-        index: place,
-    })
-}
-
 // The n records from the place `from` on, and nothing after them.
 #[tactic(auto, using(crate::proofs::FileLaws::reading))]
-fn read_records(bytes: &[u8], n: usize, from: usize, out: &mut [i16]) -> Answer
+fn read_records(bytes: &[u8], n: usize, from: usize, out: &mut [i16]) -> Result<usize, FileRefusal>
     requires { (n ≤ limit) × (width * n ≤ length out.old) }
     ensures { Gives (records_of bytes.now n from) out.old out.new result }
 {
     let m = WIDTH * n;
-    let e = end_of(bytes, m, from);
-    match e {
-        End::At(end) => {
-            if end < bytes.len() {
-                return refused(34, end);
-            }
-            fill(bytes, m, from, out);
-            Answer::Records(n)
-        }
-        End::Refused(r) => Answer::Refused(r),
+    let end = end_of(bytes, m, from)?;
+    if end < bytes.len() {
+        return Err(FileRefusal::LeftOver(end));
     }
+    fill(bytes, m, from, out);
+    Ok(n)
 }
 
-// Reads a chart file into the lent array. Judges the file's form only, not the chart.
+// Reads a chart file into the lent array, and says how many records. Judges the file's form only, not the chart.
 #[tactic(auto, unfolding(crate::specs::Files::file_of))]
-pub fn read(bytes: &[u8], out: &mut [i16]) -> Answer
+pub fn read(bytes: &[u8], out: &mut [i16]) -> Result<usize, FileRefusal>
     ensures { Reads bytes.now out.old out.new result }
 {
-    let c = number::take_number(bytes, 0);
-    match c {
-        Number::Value { value, next } => {
-            let n = value as usize;
-            let m = WIDTH * n;
-            if LIMIT < n {
-                return refused(35, 0);
-            }
-            if out.len() < m {
-                return refused(36, 0);
-            }
-            read_records(bytes, n, next, out)
-        }
-        Number::Refused(r) => Answer::Refused(r),
+    let (count, next) = number::take_number(bytes, 0)?;
+    let n = count as usize;
+    if LIMIT < n {
+        return Err(FileRefusal::TooMany);
     }
+    if out.len() < WIDTH * n {
+        return Err(FileRefusal::NoRoom);
+    }
+    read_records(bytes, n, next, out)
 }

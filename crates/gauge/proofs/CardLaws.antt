@@ -1,21 +1,25 @@
 -- The card's rules as the code tests them: over how many 256ths a float is, where it is a zero's multiple of 1/256.
 --     Factor x, factor-is, factor-most    what a rate or a gain is: 2 ^ k 256ths, for a k below 17
 --     From a b x, from_is, is-from    what a multiple from a to b is
---     pin-counted                a pin is in the range of a zero, so the test of its count is the rule
---     factor-counted, factor-below    and so with a rate or a gain
+--     pin_some, pin_none         a pin is in the range of a zero, so the test of its count is the rule
+--     factor_some, factor_below, factor_none    and so with a rate or a gain
 -- Assumes nothing.
-use Rattle.std.proofs.Common.{◌≡◌, ℕ, ◌^◌, ◌<◌, ◌≤◌, Bool, true, false, ◌&&◌, ℤ, pos, negsuc, neg_ℤ, nat_abs, sym, refl, ap, ◌∙◌, true≢false, zero-le, le_trans, arith, lit≤, pow_mono, ltb-true, eqb-true, le-leb}
+use Rattle.std.proofs.Common.{◌≡◌, ℕ, ◌^◌, ◌<◌, ◌≤◌, Bool, true, false, cond, ◌&&◌, ℤ, pos, negsuc, neg_ℤ, nat_abs, sym}
+use Rattle.std.proofs.Common.{refl, ap, ◌∙◌, true≢false, zero-le, le_trans, arith, lit≤, pow_mono, ltb-true, eqb-true}
+use Rattle.std.proofs.Common.{le-leb}
 use mathlib.Core.Bool.{false≢true}
-use lib.Signed.{non_neg, lt_z, le_z}
+use lib.Signed.{non_neg, le_z}
 use lib.Ieee.{Float}
 use Rattle.counts.specs.Count.{any, listed}
-use Rattle.counts.specs.Scan.{first_from}
+use Rattle.counts.specs.Scan.{first_from, any_place}
+use Rattle.counts.proofs.PlaceLaws.{any_place_is}
+use Rattle.std.specs.Prelude.{Some, None}
+use Rattle.std.specs.Option.{unwrap_or, is_some}
 use Rattle.counts.proofs.TestLaws.{and-true, and_intro, same_test, is_false}
 use Rattle.counts.proofs.ScanLaws.{any-first, first_from-passes}
-use Rattle.gauge.specs.declared.Units.{Units}
 use Rattle.gauge.specs.Values.{is_multiple, units}
 use Rattle.gauge.specs.Cards.{powers, is_power, is_factor, most, is_from, is_pin, is_zero}
-use Rattle.gauge.specs.Steps.{Counts}
+use Rattle.gauge.specs.Steps.{count_of}
 
 pub record Factor (x : Float) : Type 0 where
   pub multiple : is_multiple x ≡ true
@@ -76,62 +80,63 @@ pin-range {x} f = record { multiple = f.multiple; low = above (units x) f.low; h
     above (pos n) h = refl
     above (negsuc n) h = absurd (false≢true h)
 
--- ---- u is what `units_of` answers of x
+-- ---- n is what `count_of` answers of x
 
-module _ {x : Float} {u : Units} (c : Counts x u) where
-  counted-units : is_zero x ≡ true → u.count ≡ units x
-  counted-units z = c.count ∙ rw z
-
-  whole-range : u.whole ≡ true → From (neg_ℤ most) most x
-  whole-range h = from_is (neg_ℤ most) most x (sym c.whole ∙ h)
-
-  pub pin-counted : (u.whole && le_z (pos 1) u.count) ≡ is_pin x
-  pin-counted = same_test _ _ there back
+module _ (x : Float) (n : ℤ) (e : count_of x ≡ Some n) where
+  counted : (is_zero x ≡ true) × (units x ≡ n)
+  unfolding count_of
+  counted = go (is_zero x) refl e
     where
-      there : (u.whole && le_z (pos 1) u.count) ≡ true → is_pin x ≡ true
-      there h =
-          let w = and-true u.whole (le_z (pos 1) u.count) h in
-          let f = whole-range w.0 in
-          let low = ap (le_z (pos 1)) (sym (counted-units (is-from f))) ∙ w.1 in
-          is-from (record { multiple = f.multiple; low = low; high = f.high })
+      go : (b : Bool) → is_zero x ≡ b → cond b (Some (units x)) None ≡ Some n → (is_zero x ≡ true) × (units x ≡ n)
+      go true h g = (h, ap (λ o. unwrap_or o n) g)
+      go false h g = absurd (false≢true (ap is_some g))
 
-      back : is_pin x ≡ true → (u.whole && le_z (pos 1) u.count) ≡ true
-      back h =
-          let f = from_is (pos 1) most x h in
-          let z = is-from (pin-range f) in
-          and_intro (c.whole ∙ z) (ap (le_z (pos 1)) (counted-units z) ∙ f.low)
+  in-range : From (neg_ℤ most) most x
+  in-range = from_is (neg_ℤ most) most x counted.0
+
+  pub pin_some : le_z (pos 1) n ≡ is_pin x
+  pin_some = same_test _ _ there back
+    where
+      there : le_z (pos 1) n ≡ true → is_pin x ≡ true
+      there h =
+          let f = in-range in
+          is-from (record { multiple = f.multiple; low = ap (le_z (pos 1)) counted.1 ∙ h; high = f.high })
+
+      back : is_pin x ≡ true → le_z (pos 1) n ≡ true
+      back h = ap (le_z (pos 1)) (sym counted.1) ∙ (from_is (pos 1) most x h).low
 
   -- no count below zero is a rate's
-  pub factor-below : lt_z u.count (pos 0) ≡ true → is_factor x ≡ false
-  factor-below h =
+  pub factor_below : le_z (pos 0) n ≡ false → is_factor x ≡ false
+  factor_below h =
       is_false (is_factor x)
       (λ t. let f = factor-is x t in
-      clash (2 ^ f.power) (sym (ap (λ z. lt_z z (pos 0)) (counted-units (is-from (factor-range f)) ∙ f.is)) ∙ h))
-    where
-      none : (n : ℕ) → n < 0 → ⊥
-      none n l = omega arith
+      true≢false (sym (le-leb 0 (2 ^ f.power) zero-le) ∙ ap (le_z (pos 0)) (sym f.is ∙ counted.1) ∙ h))
 
-      clash : (n : ℕ) → lt_z (pos n) (pos 0) ≡ true → ⊥
-      clash n h = none n (ltb-true n 0 h)
-
-  pub factor-counted : lt_z u.count (pos 0) ≡ false → (u.whole && some_power (nat_abs u.count)) ≡ is_factor x
+  pub factor_some : le_z (pos 0) n ≡ true → any_place (is_power (nat_abs n)) (λ k. k) powers ≡ is_factor x
   unfolding is_factor
-  factor-counted n = same_test _ _ there back
+  factor_some h =
+      any_place_is (is_power (nat_abs n)) (λ k. k) powers
+      ∙ ap (λ z. some_power (nat_abs z)) (sym counted.1)
+      ∙ sym (rw (in-range.multiple, positive (units x) (ap (le_z (pos 0)) counted.1 ∙ h)) refl)
     where
-      positive : (z : ℤ) → lt_z z (pos 0) ≡ false → non_neg z ≡ true
+      positive : (z : ℤ) → le_z (pos 0) z ≡ true → non_neg z ≡ true
       positive (pos n) h = refl
-      positive (negsuc n) h = absurd (true≢false h)
+      positive (negsuc n) h = absurd (false≢true h)
 
-      there : (u.whole && some_power (nat_abs u.count)) ≡ true → is_factor x ≡ true
-      there h =
-          let w = and-true u.whole (some_power (nat_abs u.count)) h in
-          let f = whole-range w.0 in
-          let e = counted-units (is-from f) in
-          and_intro (and_intro f.multiple (ap non_neg (sym e) ∙ positive u.count n))
-          (ap (λ z. some_power (nat_abs z)) (sym e) ∙ w.1)
+module _ (x : Float) (e : count_of x ≡ None) where
+  uncounted : is_zero x ≡ false
+  unfolding count_of
+  uncounted = go (is_zero x) e
+    where
+      go : (b : Bool) → cond b (Some (units x)) None ≡ None → b ≡ false
+      go true g = absurd (true≢false (ap is_some g))
+      go false g = refl
 
-      back : is_factor x ≡ true → (u.whole && some_power (nat_abs u.count)) ≡ true
-      back h =
-          let z = is-from (factor-range (factor-is x h)) in
-          and_intro (c.whole ∙ z)
-          (ap (λ z. some_power (nat_abs z)) (counted-units z) ∙ (and-true (is_multiple x && non_neg (units x)) _ h).1)
+  pub pin_none : is_pin x ≡ false
+  pin_none =
+      is_false (is_pin x)
+      (λ h. true≢false (sym (is-from (pin-range (from_is (pos 1) most x h))) ∙ uncounted))
+
+  pub factor_none : is_factor x ≡ false
+  factor_none =
+      is_false (is_factor x) (λ h. true≢false (sym (is-from (factor-range (factor-is x h))) ∙ uncounted))

@@ -1,4 +1,4 @@
--- Why `units_of` is right: a float of size 65,536 at the most times 256 is exact, its whole part is how many 256ths it
+-- Why `count_of` is right: a float of size 65,536 at the most times 256 is exact, its whole part is how many 256ths it
 -- is with what is left over cut off, and that, as a float again, equals the product exactly if nothing was left over.
 --     scale         256, as the code has it
 --     castable      the product has a whole part that fits 64 bits
@@ -6,7 +6,11 @@
 --     left_over     where it does not, x is none
 --     uncounted     and what is none is answered so
 -- Assumes nothing.
-use Rattle.std.proofs.Common.{◌≡◌, ℕ, zero, suc, ◌+◌, ◌-◌, ◌*◌, ◌/◌, ◌%◌, ◌^◌, ◌<◌, ◌≤◌, Bool, true, false, ◌&&◌, ◌||◌, T, eqb, ltb, leb, ℤ, pos, negsuc, sym, refl, ap, ◌∙◌, lt_of_lt_of_le, lt_of_le_of_lt, lt_irrefl, mul-le-mul_right, mul_assoc, div-add-mod', zero-mul, mul-one, arith, lit<, ltb→lt, leb→le, pow_pos, pow_mono, pow-add, shl_lt, w64, to_z, of_z, eq-eqb, ne_eqb, eqb-true, le-leb, leb-false, leb-true}
+use Rattle.std.proofs.Common.{◌≡◌, ℕ, zero, suc, ◌+◌, ◌-◌, ◌*◌, ◌/◌, ◌%◌, ◌^◌, ◌<◌, ◌≤◌, Bool, true, false, ◌&&◌, ◌||◌}
+use Rattle.std.proofs.Common.{T, eqb, ltb, leb, ℤ, pos, negsuc, sym, refl, ap, ◌∙◌, lt_of_lt_of_le, lt_of_le_of_lt}
+use Rattle.std.proofs.Common.{lt_irrefl, mul-le-mul_right, mul_assoc, div-add-mod', zero-mul, mul-one, arith, lit<}
+use Rattle.std.proofs.Common.{ltb→lt, leb→le, pow_pos, pow_mono, pow-add, shl_lt, w64, to_z, of_z, eq-eqb, ne_eqb}
+use Rattle.std.proofs.Common.{eqb-true, le-leb, leb-false, leb-true}
 use mathlib.Core.Bool.{and-true, beq}
 use native.Mathlib.Nat.{div-le_of_le-mul}
 use lib.Pow.{pow-lt}
@@ -20,7 +24,8 @@ use borrow.Author.Tests.{eqb-false}
 use mir.ValLaws.{to_z-of_z}
 use Rattle.gauge.specs.Values.{in_units, size, has_minus, signed, units}
 use Rattle.gauge.specs.Cards.{is_zero}
-use Rattle.gauge.specs.Steps.{Counts}
+use Rattle.std.specs.Prelude.{Some, None}
+use Rattle.gauge.specs.Steps.{count_of}
 use Rattle.gauge.proofs.FloatLaws.{eq-value, mul-value, cut-value, Castable, castable-value}
 use Rattle.gauge.proofs.RangeLaws.{is_near, zero-near, Within}
 
@@ -175,11 +180,13 @@ module _ (x : Float) (t : fits binary64 x ≡ true) (w : Within x)
   verdict : (b : Bool) → eq y (mul binary64 x scale) ≡ b → is_zero x ≡ b
   verdict b h = zero-near x ∙ sym (level-near x t w) ∙ rw (← kept, ← float) h
 
-  pub counted : eq y (mul binary64 x scale) ≡ true → Counts x (record { whole = true; count = to_z w64 (of_z w64 r) })
-  counted h = record { whole = sym (verdict true h); count = kept ∙ rw (verdict true h) }
+  pub counted : eq y (mul binary64 x scale) ≡ true → count_of x ≡ Some (to_z w64 (of_z w64 r))
+  unfolding count_of
+  counted h = rw (verdict true h) (ap Some (sym kept))
 
   pub left_over : eq y (mul binary64 x scale) ≡ false → is_zero x ≡ false
   left_over h = verdict false h
 
-pub uncounted : (x : Float) → is_zero x ≡ false → Counts x (record { whole = false; count = pos 0 })
-uncounted x h = record { whole = sym h; count = rw h }
+pub uncounted : (x : Float) → is_zero x ≡ false → count_of x ≡ None
+unfolding count_of
+uncounted x h = rw h refl

@@ -12,7 +12,9 @@
 --     le-exactly               comparing two such floats compares their 256ths
 --     castable, cut-exactly    such a float is in range of an i64, and the cast drops its fraction towards zero
 -- Assumes nothing.
-use Rattle.std.proofs.Common.{◌≡◌, ℕ, zero, suc, ◌+◌, ◌-◌, ◌*◌, ◌/◌, ◌%◌, ◌^◌, ◌<◌, Bool, true, false, cond, not, ◌&&◌, ◌||◌, eqb, ltb, leb, ℤ, pos, negsuc, nat_abs, sym, refl, ap, ◌∙◌, subst, div-add-mod', mul-div_cancel, arith, lit<, le-ltb, lt-ltb, eq-eqb, ne_eqb, eqb-true, le-leb}
+use Rattle.std.proofs.Common.{◌≡◌, ℕ, zero, suc, ◌+◌, ◌-◌, ◌*◌, ◌/◌, ◌%◌, ◌^◌, ◌<◌, Bool, true, false, cond, not, ◌&&◌}
+use Rattle.std.proofs.Common.{◌||◌, eqb, ltb, leb, ℤ, pos, negsuc, nat_abs, sym, refl, ap, ◌∙◌, subst, div-add-mod'}
+use Rattle.std.proofs.Common.{mul-div_cancel, arith, lit<, le-ltb, lt-ltb, eq-eqb, ne_eqb, eqb-true, le-leb}
 use mathlib.Core.Bool.{false≢true}
 use native.Mathlib.Nat.{mul-mod_left}
 use lib.Dec.{leb-suc-suc}

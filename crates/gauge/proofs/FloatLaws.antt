@@ -7,7 +7,10 @@
 --     Castable, castable-value        and it is, where the fraction is below 2 ^ 63
 --     whole_float                     n 256ths are a float, if n is below 2 ^ 53
 -- Assumes nothing.
-use Rattle.std.proofs.Common.{◌≡◌, ℕ, ◌+◌, ◌-◌, ◌*◌, ◌/◌, ◌^◌, ◌<◌, ◌≤◌, min, Bool, true, false, not, ◌&&◌, ◌||◌, T, eqb, ltb, ℤ, pos, sym, refl, ap, ◌∙◌, ap₂, lt_of_lt_of_le, mul_assoc, lt_of_mul-lt-mul_right, mul-lt-mul_of_pos_right, mul-pos, arith, lit<, lit≤, pow_mono, shl_lt, ltb-true, lt-ltb, eq-eqb, eqb-true}
+use Rattle.std.proofs.Common.{◌≡◌, ℕ, ◌+◌, ◌-◌, ◌*◌, ◌/◌, ◌^◌, ◌<◌, ◌≤◌, min, Bool, true, false, not, ◌&&◌, ◌||◌, T}
+use Rattle.std.proofs.Common.{eqb, ltb, ℤ, pos, sym, refl, ap, ◌∙◌, ap₂, lt_of_lt_of_le, mul_assoc}
+use Rattle.std.proofs.Common.{lt_of_mul-lt-mul_right, mul-lt-mul_of_pos_right, mul-pos, arith, lit<, lit≤, pow_mono}
+use Rattle.std.proofs.Common.{shl_lt, ltb-true, lt-ltb, eq-eqb, eqb-true}
 use native.Mathlib.Nat.{mul-sub}
 use native.Mathlib.Nat.{eq_of_mul-eq-mul_right}
 use lib.Ieee.{Float, nan, inf, fin, Format, binary64, up, down, below, level, unlike}

@@ -5,7 +5,9 @@
 --     difference-exactly    and so is that less a zero
 --     product_small, difference-small    how few 256ths these are
 -- Assumes nothing.
-use Rattle.std.proofs.Common.{◌≡◌, ℕ, zero, suc, ◌+◌, ◌-◌, ◌*◌, ◌^◌, ◌<◌, ◌≤◌, Bool, true, false, cond, not, ◌&&◌, ltb, ℤ, pos, negsuc, ◌-ℤ◌, ◌*ℤ◌, neg_ℤ, nat_abs, sym, refl, ap, ◌∙◌, subst, mul-le-mul, mul-pos, arith, lit<, pow_pos, ltb-false, ltb-true, le-ltb, lt-ltb, leb-true}
+use Rattle.std.proofs.Common.{◌≡◌, ℕ, zero, suc, ◌+◌, ◌-◌, ◌*◌, ◌^◌, ◌<◌, ◌≤◌, Bool, true, false, cond, not, ◌&&◌, ltb}
+use Rattle.std.proofs.Common.{ℤ, pos, negsuc, ◌-ℤ◌, ◌*ℤ◌, neg_ℤ, nat_abs, sym, refl, ap, ◌∙◌, subst, mul-le-mul}
+use Rattle.std.proofs.Common.{mul-pos, arith, lit<, pow_pos, ltb-false, ltb-true, le-ltb, lt-ltb, leb-true}
 use mathlib.Core.Bool.{false≢true}
 use lib.IntN.{sub_ℕ}
 use lib.Signed.{non_neg, mag, le_z}

@@ -1,4 +1,4 @@
--- The range of `units_of`: a float passes both of its comparisons exactly if its size is no more than 65,536.
+-- The range of `count_of`: a float passes both of its comparisons exactly if its size is no more than 65,536.
 --     low, high          the ends as the code has them
 --     is_near x          a multiple of 1/256 of size 65,536 at the most
 --     zero-near          that is `is_zero`
@@ -7,7 +7,9 @@
 --     within             what passes both comparisons is within
 --     beyond             what fails one is not near
 -- Assumes nothing.
-use Rattle.std.proofs.Common.{◌≡◌, ℕ, zero, suc, ◌+◌, ◌*◌, ◌/◌, ◌%◌, ◌<◌, ◌≤◌, Bool, true, false, ◌&&◌, ◌||◌, eqb, ltb, leb, ℤ, pos, neg_ℤ, sym, refl, ◌∙◌, true≢false, lt_of_mul-lt-mul_right, div-add-mod', arith, ltb-false, ltb-true, lt-ltb, eqb-true, leb-true}
+use Rattle.std.proofs.Common.{◌≡◌, ℕ, zero, suc, ◌+◌, ◌*◌, ◌/◌, ◌%◌, ◌<◌, ◌≤◌, Bool, true, false, ◌&&◌, ◌||◌, eqb, ltb}
+use Rattle.std.proofs.Common.{leb, ℤ, pos, neg_ℤ, sym, refl, ◌∙◌, true≢false, lt_of_mul-lt-mul_right, div-add-mod'}
+use Rattle.std.proofs.Common.{arith, ltb-false, ltb-true, lt-ltb, eqb-true, leb-true}
 use mathlib.Core.Bool.{and-true, false≢true}
 use lib.Dec.{leb-suc-suc}
 use lib.Arith.{lt_of_le-ne}

@@ -4,7 +4,8 @@
 --     pin-rule       a pin is n / 256 for an n from 1 to 65,536 times 256
 --     zero-rule      a zero is n / 256 or -n / 256 for an n up to that
 -- Assumes nothing.
-use Rattle.std.proofs.Common.{◌≡◌, ℕ, ◌^◌, ◌<◌, ◌≤◌, Bool, true, false, ◌↔◌, ℤ, pos, negsuc, neg_ℤ, nat_abs, refl, ap, ◌∙◌, zero-le, pow_pos, eq-eqb, le-leb, leb-true}
+use Rattle.std.proofs.Common.{◌≡◌, ℕ, ◌^◌, ◌<◌, ◌≤◌, Bool, true, false, ◌↔◌, ℤ, pos, negsuc, neg_ℤ, nat_abs, refl, ap}
+use Rattle.std.proofs.Common.{◌∙◌, zero-le, pow_pos, eq-eqb, le-leb, leb-true}
 use mathlib.Core.Bool.{false≢true}
 use lib.Signed.{non_neg, le_z}
 use lib.Ieee.{Float}

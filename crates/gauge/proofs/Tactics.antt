@@ -1,13 +1,13 @@
 -- The laws that the tactic lines of src/lib.rt name, a set for each function. Assumes nothing.
 use mir.ValLaws.{to_z-of_z}
-use Rattle.grid.proofs.CoordinateLaws.{on_grid-fits}
 use Rattle.gauge.proofs.ExactLaws.{exactly-units, le-exactly, castable, cut-exactly}
 use Rattle.gauge.proofs.RangeLaws.{within, beyond}
 use Rattle.gauge.proofs.CutLaws.{counted, left_over, uncounted}
-use Rattle.gauge.proofs.CardLaws.{from_is, pin-counted, factor-below}
+use Rattle.gauge.proofs.CardLaws.{from_is, pin_some, pin_none, factor_some, factor_below, factor_none}
 use Rattle.gauge.proofs.PressureLaws.{pin-exactly}
-use Rattle.gauge.proofs.ReadingLaws.{own-units, pressure-whole, row-of-pressure, return-21, return-22, return-23}
-use Rattle.gauge.proofs.Plain.{mul_held, product_value, sub_held, difference_value, literal_256, literal_65536, literal-minus_65536, near_low, near_high, factor_answered, sound_spring, sound_bridge}
+use Rattle.gauge.proofs.ReadingLaws.{own-units, pressure-whole}
+use Rattle.gauge.proofs.Plain.{mul_held, product_value, sub_held, difference_value, literal_256, literal_65536}
+use Rattle.gauge.proofs.Plain.{literal-minus_65536, near_low, near_high, sound_spring, sound_bridge}
 
 pub ruleset cuts = (
   within,
@@ -23,9 +23,9 @@ pub ruleset cuts = (
   to_z-of_z,
 )
 
-pub ruleset factor_counts = (factor-below, factor_answered, to_z-of_z)
+pub ruleset factor_counts = (factor_some, factor_below, factor_none, to_z-of_z)
 
-pub ruleset pin_counts = (pin-counted, to_z-of_z)
+pub ruleset pin_counts = (pin_some, pin_none, to_z-of_z)
 
 pub ruleset products = (mul_held, product_value, to_z-of_z)
 
@@ -39,6 +39,4 @@ pub ruleset pins = (sound_spring, sound_bridge, own-units, exactly-units, to_z-o
 
 pub ruleset rows = (castable, cut-exactly, to_z-of_z)
 
-pub ruleset reads = (pressure-whole, exactly-units, row-of-pressure, return-22, return-23, on_grid-fits, to_z-of_z)
-
-pub ruleset returned = (return-21, to_z-of_z)
+pub ruleset reads = (pressure-whole, exactly-units, to_z-of_z)

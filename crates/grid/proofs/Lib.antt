@@ -1,4 +1,3 @@
 pub mod CoordinateLaws
 pub mod SignedLaws
 pub mod CastLaws
-pub mod TurnedLaws

@@ -1,24 +1,34 @@
 // The grid: the coordinate type, its count from the grid's lower end and the way back.
 #![tactic(auto)]
 
-ghost use Rattle.std.specs.Prelude.{◌≡◌};
-ghost use Rattle.grid.specs.Coordinates.{least, greatest, coord_of, located, up, down, point_of};
+ghost use Rattle.std.specs.Prelude.{◌≡◌, IsTrue, OkIff};
+ghost use Rattle.grid.specs.Coordinates.{least, greatest, coord_of, on_grid, located, up, down, point_of};
 
 use plane::Point;
 
 // A coordinate: a signed sixteen-bit number. The grid's own ends belong to it.
-#[derive(Clone, Copy)]
+#[derive(Clone, Copy, Debug, PartialEq, Eq, PartialOrd, Ord)]
 pub struct Coord {
     pub v: i16,
 }
 
-// What a wider number is to the grid.
-#[derive(Clone, Copy)]
-pub enum Located {
-    On(Coord),
-    Off,
+// A wider number lies past one of the grid's ends.
+#[derive(Clone, Copy, Debug, PartialEq, Eq)]
+pub struct OffGrid;
+
+impl TryFrom<i64> for Coord {
+    type Error = OffGrid;
+
+    ghost try_from_gives = { λ v r. OkIff r (IsTrue (on_grid v)) (coord_of v) };
+
+    #[tactic(auto, unfolding(crate::specs::Coordinates::located))]
+    fn try_from(v: i64) -> Result<Coord, OffGrid> {
+        Coord::of_wide(v).ok_or(OffGrid)
+    }
 }
 
+// The ends stand here as constants and as constructors, and `of_wide` beside TryFrom: the product names all of them. As
+// for `count` and `at_count`, they are `count_of` and `number_at` of a coordinate.
 impl Coord {
     pub const MIN: Coord = Coord { v: -32768 };
 
@@ -44,26 +54,19 @@ impl Coord {
         Self::MAX
     }
 
-    // The coordinate of a wider number, or that it is off the grid.
+    // The coordinate of a wider number, where that is on the grid.
     #[tactic(auto, unfolding(crate::specs::Coordinates::located))]
-    pub fn of_wide(v: i64) -> Located
+    pub fn of_wide(v: i64) -> Option<Coord>
         ensures { result ≡ located v }
     {
-        if v < -32768 {
-            return Located::Off;
-        }
-        if 32767 < v {
-            return Located::Off;
-        }
-        Located::On(Coord { v: v as i16 })
+        i16::try_from(v).ok().map(Coord::new)
     }
 
     // How far it lies above the grid's lower end.
     pub fn count(self) -> u16
         ensures { result ≡ up self.v }
     {
-        let v = self.v;
-        count_of(v)
+        count_of(self.v)
     }
 
     // The coordinate that lies so far above the grid's lower end.

@@ -16,14 +16,15 @@ use native.Mathlib.Omega.{arith}
 use lib.IntN.{ℤ, pos}
 use lib.ListN.{length, get_or, drop, length-drop}
 use lib.Seq.{get_or-drop}
+use Rattle.std.specs.Prelude.{Option, Some, None}
 use Rattle.counts.proofs.TestLaws.{is_false, lt-or-le}
 use Rattle.counts.proofs.ListedLaws.{mem-listed}
 use Rattle.grid.specs.Coordinates.{up, point_of}
 use Rattle.record.specs.Records.{width, record_at, record_count}
 use Rattle.record.specs.Order.{Proper, precedes}
 use Rattle.record.proofs.OrderLaws.{precedes-trans, precedes-asym}
-use Rattle.parts.specs.declared.Head.{Head}
-use Rattle.parts.specs.declared.Head.TheVariants.{Neither, First, Second}
+use Rattle.parts.specs.declared.Which.{Which}
+use Rattle.parts.specs.declared.Which.TheVariants.{First, Second}
 use Rattle.parts.specs.Parts.{from_second, head_of}
 use Rattle.parts.proofs.PartLaws.{from_second-alone, from_second-both, head_of-second, head_of-neither, head_of-first}
 use Rattle.parts.proofs.PartLaws.{first-whole, second-whole}
@@ -44,20 +45,20 @@ record_at-drop s i =
 
 -- ---- which of two arrays has the smaller head, from the answer
 
-first-not-second : First ≡ Second → ⊥
+first-not-second : Some First ≡ Some Second → ⊥
 first-not-second e = let o : ◌≡◌ {A = ℕ} 0 1 = cc in omega arith
 
-neither-not-second : Neither ≡ Second → ⊥
+neither-not-second : ◌≡◌ {A = Option Which} None (Some Second) → ⊥
 neither-not-second e = let o : ◌≡◌ {A = ℕ} 0 1 = cc in omega arith
 
-first-not-neither : First ≡ Neither → ⊥
+first-not-neither : ◌≡◌ {A = Option Which} (Some First) None → ⊥
 first-not-neither e = let o : ◌≡◌ {A = ℕ} 0 1 = cc in omega arith
 
 module _ (a b : List ℤ) where
-  from_first : {h : Head} → head_of a b ≡ h → (h ≡ Second → ⊥) → from_second a b ≡ false
+  from_first : {h : Option Which} → head_of a b ≡ h → (h ≡ Some Second → ⊥) → from_second a b ≡ false
   from_first e differ = is_false _ (λ t. differ (sym e ∙ sym (head_of-second a b t)))
 
-  from-second : head_of a b ≡ Second → from_second a b ≡ true
+  from-second : head_of a b ≡ Some Second → from_second a b ≡ true
   from-second e = go (from_second a b) refl (lt-or-le (length a) width)
     where
       go : (f : Bool) → from_second a b ≡ f → (length a < width) ⊎ (width ≤ length a) → f ≡ true
@@ -65,7 +66,7 @@ module _ (a b : List ℤ) where
       go false g (inl l) = absurd (neither-not-second (head_of-neither a b g l ∙ e))
       go false g (inr l) = absurd (first-not-second (head_of-first a b g l ∙ e))
 
-  both-short : head_of a b ≡ Neither → (length a < width) × (length b < width)
+  both-short : head_of a b ≡ None → (length a < width) × (length b < width)
   both-short e = go (lt-or-le (length a) width) (lt-or-le (length b) width)
     where
       first : from_second a b ≡ false
@@ -95,19 +96,19 @@ module _ (a b : List ℤ) (i j : ℕ) where
       from_second-both _ _ (left-whole b j h) (left-whole a i l)
       ∙ ap₂ precedes (record_at-drop b j) (record_at-drop a i)
 
-  pub head_first : head_of (drop (width * i) a) (drop (width * j) b) ≡ First
+  pub head_first : head_of (drop (width * i) a) (drop (width * j) b) ≡ Some First
       → (i < record_count a) × (j < record_count b → precedes (record_at b j) (record_at a i) ≡ false)
   head_first e =
       let l = left-some a i (first-whole _ _ e) in
       (l, (λ h. sym (heads l h) ∙ from_first _ _ e first-not-second))
 
-  pub head-second : head_of (drop (width * i) a) (drop (width * j) b) ≡ Second
+  pub head-second : head_of (drop (width * i) a) (drop (width * j) b) ≡ Some Second
       → (j < record_count b) × (i < record_count a → precedes (record_at b j) (record_at a i) ≡ true)
   head-second e =
       let h = left-some b j (second-whole _ _ e) in
       (h, (λ l. sym (heads l h) ∙ from-second _ _ e))
 
-  pub head-neither : head_of (drop (width * i) a) (drop (width * j) b) ≡ Neither
+  pub head-neither : head_of (drop (width * i) a) (drop (width * j) b) ≡ None
       → (record_count a ≤ i) × (record_count b ≤ j)
   head-neither e = let short = both-short _ _ e in (left-none a i short.0, left-none b j short.1)
 

@@ -7,4 +7,4 @@ pub mod WriteLaws
 pub mod MarkLaws
 pub mod JoinLaws
 pub mod OutcomeLaws
-pub mod Sets
+pub mod NumberedLaws

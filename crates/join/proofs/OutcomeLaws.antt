@@ -22,25 +22,28 @@ use lib.Dec.{ltb}
 use lib.IntN.{ℤ}
 use lib.ListN.{length, take, drop}
 use lib.Seq.{take_at, drop_at}
-use borrow.Author.Tests.{ltb-true, ltb-false, ne_eqb}
+use borrow.Author.Tests.{ltb-false, ne_eqb}
+use Rattle.std.specs.Prelude.{Option, Some, None, Ok, Err}
 use Rattle.counts.specs.Count.{any}
+use Rattle.counts.specs.Scan.{first_place}
+use Rattle.counts.proofs.PlaceLaws.{first_place_some, first_place_none}
 use Rattle.counts.proofs.TestLaws.{lt-or-le}
 use Rattle.record.specs.declared.Record.{Record}
-use Rattle.record.specs.Records.{width, record_count}
+use Rattle.record.specs.Records.{width, record_at, record_count}
 use Rattle.chart.specs.declared.Refusal.{Refusal}
-use Rattle.chart.specs.declared.Verdict.{Verdict}
-use Rattle.chart.specs.declared.Verdict.TheVariants as verdict
-use Rattle.chart.specs.Verdicts.{limit, verdict}
+use Rattle.chart.specs.declared.ChartRefusal.{ChartRefusal}
+use Rattle.chart.specs.Verdicts.{limit, Verdict, told, verdict}
 use Rattle.chart.proofs.IndexLaws.{verdict-told}
 use Rattle.chart.specs.Regions.{Region}
 use Rattle.chart.proofs.RegionLaws.{accepted-is}
 use Rattle.combined.specs.Results.{numbers}
 use Rattle.combined.proofs.NumberLaws.{numbers-length}
 use Rattle.sides.specs.declared.Op.{Op}
-use Rattle.join.specs.declared.Joined.{Joined}
-use Rattle.join.specs.declared.Joined.TheVariants.{Records, Refused}
-use Rattle.join.specs.Joinings.{first_touching, result_of, Outcome, joined, refused, none_named, unless_refused}
-use Rattle.join.specs.Joinings.{joined_in, outcome, answer_of, contents, is_join_refusal, Joins}
+use Rattle.join.specs.declared.JoinRefusal.{JoinRefusal}
+use Rattle.join.specs.declared.JoinRefusal.TheVariants.{First, Second, TooMany, NoRoom}
+use Rattle.join.specs.Joinings.{touches_in, first_touching, result_of, Outcome, unless_refused, unless_touching}
+use Rattle.join.specs.Joinings.{joined_in, outcome, Joined, answer_of, contents, told_joining, named, is_join_refusal}
+use Rattle.join.specs.Joinings.{Joins}
 
 pub record Met (op : Op) (a b : List ℤ) (room : ℕ) (rs : List Record) : Type 0 where
   pub first : Region a
@@ -51,87 +54,92 @@ pub record Met (op : Op) (a b : List ℤ) (room : ℕ) (rs : List Record) : Type
   pub fits : width * length rs ≤ room
 
 pub data Told (a b : List ℤ) (c : ℕ) (r : Refusal) : Type 0 where
-  first : c ≡ 1 → verdict a ≡ verdict.Refused r → Told a b c r
-  second : c ≡ 2 → verdict a ≡ verdict.Accepted → verdict b ≡ verdict.Refused r → Told a b c r
-  neither : c ≡ 0 → verdict a ≡ verdict.Accepted → verdict b ≡ verdict.Accepted → is_join_refusal r.number ≡ true
-      → r.index < limit → Told a b c r
+  first : {q : ChartRefusal} → c ≡ 1 → verdict a ≡ Err q → r ≡ told q → Told a b c r
+  second : {q : ChartRefusal} → c ≡ 2 → verdict a ≡ Ok tt → verdict b ≡ Err q → r ≡ told q → Told a b c r
+  neither : c ≡ 0 → verdict a ≡ Ok tt → verdict b ≡ Ok tt → is_join_refusal r.number ≡ true → r.index < limit
+      → Told a b c r
 
-joined-one : {rs qs : List Record} → joined rs ≡ joined qs → rs ≡ qs
+joined-one : {rs qs : List Record} → ◌≡◌ {A = Outcome} (Ok rs) (Ok qs) → rs ≡ qs
 joined-one e = cc
 
-refused-not : {rs : List Record} {c : ℕ} {r : Refusal} → refused c r ≡ joined rs → ⊥
+refused-one : {q r : JoinRefusal} → ◌≡◌ {A = Outcome} (Err q) (Err r) → q ≡ r
+refused-one e = cc
+
+refused-not : {rs : List Record} {r : JoinRefusal} → ◌≡◌ {A = Outcome} (Err r) (Ok rs) → ⊥
 refused-not e = let o : ◌≡◌ {A = ℕ} 0 1 = cc in omega arith
 
+-- where a segment touches one of the other chart, if one does
+abbrev touching : List ℤ → List ℤ → Option ℕ
+touching a b = first_place (touches_in b) (record_at a) (record_count a)
+
 module _ (op : Op) (a b : List ℤ) (room : ℕ) where
-  pub outcome-met : (rs : List Record) → outcome op a b room ≡ joined rs → Met op a b room rs
+  pub outcome-met : (rs : List Record) → outcome op a b room ≡ Ok rs → Met op a b room rs
   unfolding outcome joined_in
   outcome-met rs = by_first (verdict a) refl
     where
-      by_result : (x y z : Bool) → ltb (first_touching a b) (record_count a) ≡ x
+      by_result : (o : Option ℕ) (y z : Bool) → touching a b ≡ o
           → ltb limit (length (result_of op a b)) ≡ y → ltb room (width * length (result_of op a b)) ≡ z
-          → verdict a ≡ verdict.Accepted → verdict b ≡ verdict.Accepted
-          → cond x (none_named 11 (first_touching a b))
-          (cond y (none_named 12 0) (cond z (none_named 13 0) (joined (result_of op a b)))) ≡ joined rs
+          → verdict a ≡ Ok tt → verdict b ≡ Ok tt
+          → unless_touching o (cond y (Err TooMany) (cond z (Err NoRoom) (Ok (result_of op a b)))) ≡ Ok rs
           → Met op a b room rs
-      by_result true y z t l s v w e = absurd (refused-not e)
-      by_result false true z t l s v w e = absurd (refused-not e)
-      by_result false false true t l s v w e = absurd (refused-not e)
-      by_result false false false t l s v w e =
+      by_result (Some i) y z t l s v w e = absurd (refused-not e)
+      by_result None true z t l s v w e = absurd (refused-not e)
+      by_result None false true t l s v w e = absurd (refused-not e)
+      by_result None false false t l s v w e =
           let same = sym (joined-one e) in
           record {
             first = (accepted-is a).0 v;
             second = (accepted-is b).0 w;
-            apart = t;
+            apart = (first_place_none (touches_in b) (record_at a) (record_count a)).0 t;
             is = same;
             few = rw same (ltb-false _ _ l);
             fits = rw same (ltb-false _ _ s);
           }
 
-      by-second : (w : Verdict) → verdict b ≡ w → verdict a ≡ verdict.Accepted
-          → unless_refused 2 w (joined_in op a b room) ≡ joined rs → Met op a b room rs
-      by-second verdict.Accepted k h e = by_result _ _ _ refl refl refl h k e
-      by-second (verdict.Refused r) k h e = absurd (refused-not e)
+      by-second : (w : Verdict) → verdict b ≡ w → verdict a ≡ Ok tt
+          → unless_refused Second w (joined_in op a b room) ≡ Ok rs → Met op a b room rs
+      by-second (Ok u) k h e = by_result _ _ _ refl refl refl h k e
+      by-second (Err r) k h e = absurd (refused-not e)
 
       by_first : (v : Verdict) → verdict a ≡ v
-          → unless_refused 1 v (unless_refused 2 (verdict b) (joined_in op a b room)) ≡ joined rs → Met op a b room rs
-      by_first verdict.Accepted h e = by-second (verdict b) refl h e
-      by_first (verdict.Refused r) h e = absurd (refused-not e)
+          → unless_refused First v (unless_refused Second (verdict b) (joined_in op a b room)) ≡ Ok rs
+          → Met op a b room rs
+      by_first (Ok u) h e = by-second (verdict b) refl h e
+      by_first (Err r) h e = absurd (refused-not e)
 
   -- ---- refusals
 
-  pub outcome-told : (c : ℕ) (r : Refusal) → outcome op a b room ≡ refused c r → Told a b c r
+  pub outcome-told : (r : JoinRefusal) → outcome op a b room ≡ Err r → Told a b (named r) (told_joining r)
   unfolding outcome joined_in any
-  outcome-told c r = by_first (verdict a) refl
+  outcome-told r = by_first (verdict a) refl
     where
-      told : {d : ℕ} {q : Refusal} → Told a b d q → refused d q ≡ refused c r → Told a b c r
-      told {d} {q} h e =
-          let same : d ≡ c = cc in
-          let one : q ≡ r = cc in
-          rw (← same, ← one) h
+      is_told : {q : JoinRefusal} → Told a b (named q) (told_joining q) → ◌≡◌ {A = Outcome} (Err q) (Err r)
+          → Told a b (named r) (told_joining r)
+      is_told h e = rw (← refused-one e) h
 
-      by_result : (x y z : Bool) → ltb (first_touching a b) (record_count a) ≡ x → verdict a ≡ verdict.Accepted
-          → verdict b ≡ verdict.Accepted
-          → cond x (none_named 11 (first_touching a b))
-          (cond y (none_named 12 0) (cond z (none_named 13 0) (joined (result_of op a b)))) ≡ refused c r → Told a b c r
-      by_result true y z t h k e =
+      by_result : (o : Option ℕ) (y z : Bool) → touching a b ≡ o → verdict a ≡ Ok tt → verdict b ≡ Ok tt
+          → unless_touching o (cond y (Err TooMany) (cond z (Err NoRoom) (Ok (result_of op a b)))) ≡ Err r
+          → Told a b (named r) (told_joining r)
+      by_result (Some i) y z t h k e =
           let few = ((accepted-is a).0 h).few in
-          let at : first_touching a b < limit = omega (arith, ltb-true (first_touching a b) (record_count a) t) in
-          told (neither refl h k refl at) e
-      by_result false true z t h k e = told (neither refl h k refl (omega arith)) e
-      by_result false false true t h k e = told (neither refl h k refl (omega arith)) e
-      by_result false false false t h k e = absurd (refused-not (sym e))
+          let at = first_place_some (touches_in b) (record_at a) {n = record_count a} t in
+          is_told (neither refl h k refl (omega (arith, at.1))) e
+      by_result None true z t h k e = is_told (neither refl h k refl (omega arith)) e
+      by_result None false true t h k e = is_told (neither refl h k refl (omega arith)) e
+      by_result None false false t h k e = absurd (refused-not (sym e))
 
-      by-second : (w : Verdict) → verdict b ≡ w → verdict a ≡ verdict.Accepted
-          → unless_refused 2 w (joined_in op a b room) ≡ refused c r → Told a b c r
-      by-second verdict.Accepted k h e =
-          by_result (ltb (first_touching a b) (record_count a)) (ltb limit (length (result_of op a b)))
+      by-second : (w : Verdict) → verdict b ≡ w → verdict a ≡ Ok tt
+          → unless_refused Second w (joined_in op a b room) ≡ Err r → Told a b (named r) (told_joining r)
+      by-second (Ok u) k h e =
+          by_result (touching a b) (ltb limit (length (result_of op a b)))
           (ltb room (width * length (result_of op a b))) refl h k e
-      by-second (verdict.Refused q) k h e = told (second refl h k) e
+      by-second (Err q) k h e = is_told (second refl h k refl) e
 
       by_first : (v : Verdict) → verdict a ≡ v
-          → unless_refused 1 v (unless_refused 2 (verdict b) (joined_in op a b room)) ≡ refused c r → Told a b c r
-      by_first verdict.Accepted h e = by-second (verdict b) refl h e
-      by_first (verdict.Refused q) h e = told (first refl h) e
+          → unless_refused First v (unless_refused Second (verdict b) (joined_in op a b room)) ≡ Err r
+          → Told a b (named r) (told_joining r)
+      by_first (Ok u) h e = by-second (verdict b) refl h e
+      by_first (Err q) h e = is_told (first refl h refl) e
 
 -- what has room in an answer's bits
 pub record Small (c : ℕ) (r : Refusal) : Type 0 where
@@ -153,12 +161,12 @@ at-most-13 k e = go (lt-or-le 13 k)
     go (inr l) = l
 
 pub told-small : {a b : List ℤ} {c : ℕ} {r : Refusal} → Told a b c r → Small c r
-told-small {a} (first e v) =
+told-small {a} (first e v is) =
     let t = rw v at (verdict-told a) in
-    record { chart = omega arith; number = omega (arith, t.number); index = t.index }
-told-small {a} {b} (second e v w) =
+    rw is (record { chart = omega arith; number = omega (arith, t.number); index = t.index })
+told-small {a} {b} (second e v w is) =
     let t = rw w at (verdict-told b) in
-    record { chart = omega arith; number = omega (arith, t.number); index = t.index }
+    rw is (record { chart = omega arith; number = omega (arith, t.number); index = t.index })
 told-small (neither e v w k l) = record { chart = omega arith; number = at-most-13 _ k; index = l }
 
 -- ---- what the contract says
@@ -170,12 +178,12 @@ pub record Combined (op : Op) (a b lent out : List ℤ) (n : ℕ) : Type 0 where
   pub beyond : drop (width * n) out ≡ drop (width * n) lent
 
 module _ (op : Op) (a b lent out : List ℤ) {j : Joined} (joins : Joins op a b lent out j) where
-  pub joins-combined : {n : ℕ} → j ≡ Records n → Combined op a b lent out n
+  pub joins-combined : {n : ℕ} → j ≡ Ok n → Combined op a b lent out n
   joins-combined {n} e = go (outcome op a b (length lent)) refl (sym e ∙ joins.says) joins.leaves
     where
-      go : (o : Outcome) → outcome op a b (length lent) ≡ o → Records n ≡ answer_of o → out ≡ contents o lent
-          → Combined op a b lent out n
-      go (joined rs) h m w =
+      go : (o : Outcome) → outcome op a b (length lent) ≡ o → ◌≡◌ {A = Joined} (Ok n) (answer_of o)
+          → out ≡ contents o lent → Combined op a b lent out n
+      go (Ok rs) h m w =
           let met = outcome-met op a b (length lent) rs h in
           let many : n ≡ length rs = cc in
           let long : length (numbers rs) ≡ width * n = omega (arith, numbers-length rs) in
@@ -188,16 +196,16 @@ module _ (op : Op) (a b lent out : List ℤ) {j : Joined} (joins : Joins op a b 
                 ap (drop (width * n)) w ∙ drop_at (numbers rs) rest (width * n) long
                 ∙ ap (λ k. drop (width * k) lent) (sym many);
           }
-      go (refused c r) h m w = let o : ◌≡◌ {A = ℕ} 0 1 = cc in absurd (omega arith)
+      go (Err r) h m w = let o : ◌≡◌ {A = ℕ} 0 1 = cc in absurd (omega arith)
 
-  module _ {c : ℕ} {r : Refusal} (e : j ≡ Refused c r) where
-    pub joins-refused : outcome op a b (length lent) ≡ refused c r
+  module _ {r : JoinRefusal} (e : j ≡ Err r) where
+    pub joins-refused : outcome op a b (length lent) ≡ Err r
     joins-refused = go (outcome op a b (length lent)) refl (sym e ∙ joins.says)
       where
-        go : (o : Outcome) → outcome op a b (length lent) ≡ o → Refused c r ≡ answer_of o
-            → outcome op a b (length lent) ≡ refused c r
-        go (joined rs) h m = let o : ◌≡◌ {A = ℕ} 0 1 = cc in absurd (omega arith)
-        go (refused d q) h m = cc
+        go : (o : Outcome) → outcome op a b (length lent) ≡ o → ◌≡◌ {A = Joined} (Err r) (answer_of o)
+            → outcome op a b (length lent) ≡ Err r
+        go (Ok rs) h m = let o : ◌≡◌ {A = ℕ} 0 1 = cc in absurd (omega arith)
+        go (Err q) h m = cc
 
     pub joins-untouched : out ≡ lent
     joins-untouched = rw joins-refused at joins.leaves

@@ -1,5 +1,5 @@
 -- Records put into an array one after the other (specs/Steps.antt).
---     record-put          the five stores of `put`
+--     record_put          the five stores of `put`
 --     records-put         some records from record n on: the first of them there, and then the others from n + 1 on
 --     contents-put        what joining leaves is the result from record 0 on
 -- Assumes nothing.
@@ -14,12 +14,13 @@ use lib.Seq.{sets, sets-eq}
 use mir.Syntax.{w16}
 use mir.Val.{SFits, to_z, of_z}
 use mir.ValLaws.{to_z-of_z}
+use Rattle.std.specs.Prelude.{Ok}
 use Rattle.grid.specs.Coordinates.{down}
 use Rattle.record.specs.declared.Record.{Record}
 use Rattle.record.specs.Records.{width}
 use Rattle.combined.specs.Results.{numbers}
 use Rattle.combined.proofs.NumberLaws.{numbers-length}
-use Rattle.join.specs.Joinings.{joined, contents}
+use Rattle.join.specs.Joinings.{contents}
 use Rattle.join.specs.Steps.{with_record}
 
 -- ---- one record
@@ -31,14 +32,14 @@ stored z = to_z w16 (of_z w16 z)
 stored_is : (z : ℤ) (n : ℕ) → z ≡ down n → SFits w16 z → stored z ≡ down n
 stored_is z n e h = to_z-of_z w16 z h ∙ e
 
-pub record-put : (lent : List ℤ) (n : ℕ) (r : Record) {u v x y z : ℤ}
+pub record_put : (lent : List ℤ) (n : ℕ) (r : Record) {u v x y z : ℤ}
     → u ≡ down r.dom.x → v ≡ down r.dom.y → x ≡ down r.other.x → y ≡ down r.other.y → z ≡ down r.mark
     → SFits w16 u → SFits w16 v → SFits w16 x → SFits w16 y → SFits w16 z
     → set (set (set (set (set lent (width * n) (stored u)) (width * n + 1) (stored v)) (width * n + 2) (stored x))
     (width * n + 3) (stored y)) (width * n + 4) (stored z)
     ≡ with_record lent n r
 unfolding numbers
-record-put lent n r {u} {v} {x} {y} {z} e f g h k p q s t w =
+record_put lent n r {u} {v} {x} {y} {z} e f g h k p q s t w =
     rw (
       stored_is u r.dom.x e p,
       stored_is v r.dom.y f q,
@@ -62,7 +63,7 @@ records-put lent n r rs =
     ap (λ k. sets (with_record lent n r) k (numbers rs)) next
 
 pub contents-put : (lent : List ℤ) (rs : List Record) → width * length rs ≤ length lent
-    → contents (joined rs) lent ≡ sets lent 0 (numbers rs)
+    → contents (Ok rs) lent ≡ sets lent 0 (numbers rs)
 contents-put lent rs h =
     let all : 0 + length (numbers rs) ≡ width * length rs = omega (arith, numbers-length rs) in
     sym (sets-eq (numbers rs) lent 0 (omega arith) ∙ ap (λ k. numbers rs ++ drop k lent) all)

@@ -16,13 +16,14 @@ use native.Mathlib.Numerals.{add-one}
 use native.Mathlib.Omega.{arith}
 use lib.IntN.{ℤ}
 use lib.ListN.{drop}
+use Rattle.std.specs.Prelude.{Some}
 use Rattle.counts.specs.Count.{◌∈◌, keep, listed}
 use Rattle.counts.proofs.CountLaws.{keep-mem}
 use Rattle.counts.proofs.ListedLaws.{listed-mem}
 use Rattle.record.specs.declared.Record.{Record}
 use Rattle.record.specs.Records.{width, record_at, record_count}
 use Rattle.record.specs.Order.{precedes}
-use Rattle.parts.specs.declared.Head.TheVariants.{First, Second}
+use Rattle.parts.specs.declared.Which.TheVariants.{First, Second}
 use Rattle.parts.specs.Parts.{head_of}
 use Rattle.chart.specs.Regions.{Region}
 use Rattle.combined.specs.Kept.{kept}
@@ -84,7 +85,7 @@ module _ (op : Op) (a b : List ℤ) where
   module _ (first : Region a) (second : Region b) (i j : ℕ) where
     -- ---- the first chart's head: no other record that is left precedes it
 
-    module _ (e : head_of (drop (width * i) a) (drop (width * j) b) ≡ First) where
+    module _ (e : head_of (drop (width * i) a) (drop (width * j) b) ≡ Some First) where
       none-earlier : (x : Record) → x ∈ of_first (i + 1) ++ of_second j → precedes x (record_at a i) ≡ false
       none-earlier x m = by-chart (Memᴰ.append_cases (of_first (i + 1)) m)
         where
@@ -111,7 +112,7 @@ module _ (op : Op) (a b : List ℤ) where
 
     -- ---- the second chart's head: it precedes all that are left of the first, and none of the second precedes it
 
-    module _ (e : head_of (drop (width * i) a) (drop (width * j) b) ≡ Second) where
+    module _ (e : head_of (drop (width * i) a) (drop (width * j) b) ≡ Some Second) where
       all-later : (x : Record) → x ∈ of_first i → precedes (record_at b j) x ≡ true
       all-later x m =
           let at = left-mem (kept_first op a b) a i x m in

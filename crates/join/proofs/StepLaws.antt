@@ -1,6 +1,6 @@
 -- One record more, which is kept or not (specs/Steps.antt): n records of a whole are written.
---     took-room, took-kept, took-not    what `take_first` and `take_second` ask and leave, by whether it is kept;
---                      `taking` has them all
+--     took-room, took-kept, took-not    what `take` asks and leaves, by whether it is kept; `taking` has
+--                      them all
 --     Ahead whole mark lent out n rs    the array that was `lent` is now `out`; with rs written too it is the whole
 --     ahead-all        at the beginning
 --     ahead-room       there is room for the next record
@@ -15,11 +15,12 @@ use native.Mathlib.Omega.{arith}
 use lib.IntN.{ℤ}
 use lib.ListN.{length, length-map}
 use lib.Seq.{sets, length-sets}
+use Rattle.std.specs.Prelude.{Ok}
 use Rattle.counts.specs.Count.{ind}
 use Rattle.record.specs.declared.Record.{Record}
 use Rattle.record.specs.Records.{width}
 use Rattle.combined.specs.Results.{numbers}
-use Rattle.join.specs.Joinings.{joined, contents}
+use Rattle.join.specs.Joinings.{contents}
 use Rattle.join.specs.Steps.{with_record, Room, Took}
 use Rattle.join.proofs.PutLaws.{records-put, contents-put}
 
@@ -62,7 +63,7 @@ pub record Ahead (whole : List ℤ) (mark : Record → Record) (lent out : List 
   pub is : whole ≡ sets out (width * n) (numbers (map mark rs))
 
 pub ahead-all : (mark : Record → Record) (lent : List ℤ) (rs : List Record) → width * length rs ≤ length lent
-    → Ahead (contents (joined (map mark rs)) lent) mark lent lent 0 rs
+    → Ahead (contents (Ok (map mark rs)) lent) mark lent lent 0 rs
 ahead-all mark lent rs h =
     let size = length-map rs mark in
     record { room = omega arith; long = refl; is = contents-put lent (map mark rs) (omega arith) }

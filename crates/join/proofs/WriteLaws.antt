@@ -10,17 +10,18 @@
 --     writing-end       where neither has a record left
 --     writing           for `search`: what closes the goals of the loop
 -- Assumes nothing.
-use mathlib.Core.Path.{◌≡◌, sym, ap₂, ◌∙◌, subst}
+use mathlib.Core.Path.{◌≡◌, sym, ap, ap₂, ◌∙◌, subst}
 use mathlib.Core.List.{List}
 use Prim.Native.Nat.{ℕ, ◌+◌, ◌-◌, ◌*◌, ◌<◌, ◌≤◌, zero-le}
 use native.Mathlib.Omega.{arith}
 use lib.IntN.{ℤ}
 use lib.ListN.{length, take, drop, length-drop}
 use lib.Seq.{take_all}
+use Rattle.std.specs.Prelude.{Option, Some, None}
 use Rattle.record.specs.declared.Record.{Record}
 use Rattle.record.specs.Records.{width, record_at, record_count}
-use Rattle.parts.specs.declared.Head.{Head}
-use Rattle.parts.specs.declared.Head.TheVariants.{Neither, First, Second}
+use Rattle.parts.specs.declared.Which.{Which}
+use Rattle.parts.specs.declared.Which.TheVariants.{First, Second}
 use Rattle.parts.specs.Parts.{head_of}
 use Rattle.chart.specs.Regions.{Region}
 use Rattle.combined.specs.Kept.{kept}
@@ -28,9 +29,9 @@ use Rattle.combined.specs.Results.{in_order}
 use Rattle.combined.proofs.OrderedLaws.{in_order-length}
 use Rattle.sides.specs.declared.Op.{Op}
 use Rattle.sides.specs.Operations.{joining, both}
-use Rattle.join.specs.Joinings.{result_of}
 use Rattle.sides.specs.Kept.{kept_first, kept_second, side_marked}
-use Rattle.join.specs.Steps.{written, Room, TookFirst, TookSecond}
+use Rattle.join.specs.Joinings.{result_of}
+use Rattle.join.specs.Steps.{written, Room, TookNext}
 use Rattle.join.proofs.SizeLaws.{result-length}
 use Rattle.join.proofs.StepLaws.{Ahead, ahead-all, ahead_none, ahead-room, ahead-next}
 use Rattle.join.proofs.HeadLaws.{head_first, head-second, head-neither}
@@ -53,17 +54,17 @@ onward s i = take (length s - width * i) (drop (width * i) s)
 onward-is : (s : List ℤ) (i : ℕ) → onward s i ≡ drop (width * i) s
 onward-is s i = take_all (length s - width * i) (drop (width * i) s) (omega (arith, length-drop (width * i) s))
 
-smaller : (a b : List ℤ) (i j : ℕ) {h k : Head} → h ≡ head_of (onward a i) (onward b j) → h ≡ k
+smaller : (a b : List ℤ) (i j : ℕ) {h k : Option Which} → h ≡ head_of (onward a i) (onward b j) → h ≡ k
     → head_of (drop (width * i) a) (drop (width * j) b) ≡ k
 smaller a b i j is e = ap₂ head_of (sym (onward-is a i)) (sym (onward-is b j)) ∙ sym is ∙ e
 
-module _ {op : Op} {a b lent out : List ℤ} {i j n : ℕ} {h : Head} (w : Writing op a b lent out i j n)
-    (is : h ≡ head_of (onward a i) (onward b j)) where
-  pub fewer-first : h ≡ First → left a b (i + 1) j < left a b i j
-  fewer-first e = omega (arith, (head_first a b i j (smaller a b i j is e)).0)
+module _ {op : Op} {a b lent out : List ℤ} {i j n : ℕ} {h : Option Which} {v : Which}
+    (w : Writing op a b lent out i j n) (is : h ≡ head_of (onward a i) (onward b j)) (some : h ≡ Some v) where
+  pub fewer-first : v ≡ First → left a b (i + 1) j < left a b i j
+  fewer-first e = omega (arith, (head_first a b i j (smaller a b i j is (some ∙ ap Some e))).0)
 
-  pub fewer-second : h ≡ Second → left a b i (j + 1) < left a b i j
-  fewer-second e = omega (arith, (head-second a b i j (smaller a b i j is e)).0)
+  pub fewer-second : v ≡ Second → left a b i (j + 1) < left a b i j
+  fewer-second e = omega (arith, (head-second a b i j (smaller a b i j is (some ∙ ap Some e))).0)
 
 module _ (op : Op) (a b lent : List ℤ) where
   pub writing-none : width * length (result_of op a b) ≤ length lent → Writing op a b lent lent 0 0 0
@@ -77,21 +78,21 @@ module _ (op : Op) (a b lent : List ℤ) where
         ahead = subst (AheadOf op a b lent lent 0) (sym (rest_all op a b)) all;
       }
 
-  module _ {out : List ℤ} {i j n : ℕ} {h : Head} (first : Region a) (second : Region b)
+  module _ {out : List ℤ} {i j n : ℕ} {h : Option Which} (first : Region a) (second : Region b)
       (w : Writing op a b lent out i j n) (is : h ≡ head_of (onward a i) (onward b j)) where
     -- what is ahead, by the smaller head
     ahead-is : {rs : List Record} → rest_of op a b i j ≡ rs → AheadOf op a b lent out n rs
     ahead-is e = subst (AheadOf op a b lent out n) e w.ahead
 
-    pub room-first : h ≡ First → Room (kept_first op a b) (record_at a i) out n
-    room-first e =
+    pub room-first : {v : Which} → h ≡ Some v → v ≡ First → Room (kept_first op a b) (record_at a i) out n
+    room-first some e =
         ahead-room _ (side_marked op a b) lent out n (kept_first op a b) (record_at a i) (rest_of op a b (i + 1) j)
-        (ahead-is (rest-first op a b first second i j (smaller a b i j is e)))
+        (ahead-is (rest-first op a b first second i j (smaller a b i j is (some ∙ ap Some e))))
 
-    pub writing-first : {next : List ℤ} {m : ℕ} → h ≡ First → TookFirst op a b i out n next m
-        → Writing op a b lent next (i + 1) j m
-    writing-first e took =
-        let head = smaller a b i j is e in
+    pub writing-first : {next : List ℤ} {m : ℕ} {v : Which} → h ≡ Some v → v ≡ First
+        → TookNext First op a b i out n next m → Writing op a b lent next (i + 1) j m
+    writing-first some e took =
+        let head = smaller a b i j is (some ∙ ap Some e) in
         record {
           first = omega (arith, (head_first a b i j head).0);
           second = w.second;
@@ -99,15 +100,15 @@ module _ (op : Op) (a b lent : List ℤ) where
               (rest_of op a b (i + 1) j) (ahead-is (rest-first op a b first second i j head)) took;
         }
 
-    pub room-second : h ≡ Second → Room (kept_second op a b) (record_at b j) out n
-    room-second e =
+    pub room-second : {v : Which} → h ≡ Some v → v ≡ Second → Room (kept_second op a b) (record_at b j) out n
+    room-second some e =
         ahead-room _ (side_marked op a b) lent out n (kept_second op a b) (record_at b j) (rest_of op a b i (j + 1))
-        (ahead-is (rest-second op a b first second i j (smaller a b i j is e)))
+        (ahead-is (rest-second op a b first second i j (smaller a b i j is (some ∙ ap Some e))))
 
-    pub writing-second : {next : List ℤ} {m : ℕ} → h ≡ Second → TookSecond op a b j out n next m
-        → Writing op a b lent next i (j + 1) m
-    writing-second e took =
-        let head = smaller a b i j is e in
+    pub writing-second : {next : List ℤ} {m : ℕ} {v : Which} → h ≡ Some v → v ≡ Second
+        → TookNext Second op a b j out n next m → Writing op a b lent next i (j + 1) m
+    writing-second some e took =
+        let head = smaller a b i j is (some ∙ ap Some e) in
         record {
           first = w.first;
           second = omega (arith, (head-second a b i j head).0);
@@ -115,7 +116,7 @@ module _ (op : Op) (a b lent : List ℤ) where
               (rest_of op a b i (j + 1)) (ahead-is (rest-second op a b first second i j head)) took;
         }
 
-    pub writing-end : h ≡ Neither → out ≡ written op a b lent
+    pub writing-end : h ≡ None → out ≡ written op a b lent
     writing-end e =
         let past = head-neither a b i j (smaller a b i j is e) in
         ahead_none (ahead-is (rest-none op a b i j past.0 past.1))

@@ -6,22 +6,22 @@
 -- Where `kept` tells which records are kept, `mark` how they stand in the result, and n of them are written:
 --     Room kept r lent n       the array has room for r too, where it is kept
 --     Took kept mark r lent n out m    where it is kept it was written next; so the array is then `out`, with m records
---     TookFirst op a b i .., TookSecond op a b j ..    the same of record i of the first chart and j of the second
+--     TookNext which op a b k ..    the same of record k of the first chart or of the second
 --     SoundJoins op a b lent out j     of two accepted charts: the answer is j, and the array that was `lent` is then
 --                              `out`
 -- Assumes nothing.
-use Rattle.std.specs.Prelude.{◌≡◌, Bool, cond, List, [], ◌∷◌, map, ℕ, ◌+◌, ◌*◌, ◌≤◌, ℤ, length}
+use Rattle.std.specs.Prelude.{◌≡◌, Bool, cond, List, [], ◌∷◌, map, ℕ, ◌+◌, ◌*◌, ◌≤◌, ℤ, length, Ok}
 use Rattle.std.proofs.lemmas.List.Edits.{sets}
 use Rattle.counts.specs.Count.{ind}
 use Rattle.record.specs.declared.Record.{Record}
 use Rattle.record.specs.Records.{width, record_at, record_count}
+use Rattle.parts.specs.declared.Which.{Which}
 use Rattle.combined.specs.Kept.{kept}
 use Rattle.combined.specs.Results.{in_order, numbers}
 use Rattle.sides.specs.declared.Op.{Op}
-use Rattle.sides.specs.Operations.{joining, both}
-use Rattle.sides.specs.Kept.{kept_first, kept_second, side_marked}
-use Rattle.join.specs.declared.Joined.{Joined}
-use Rattle.join.specs.Joinings.{result_of, joined, joined_in, contents, Gives}
+use Rattle.sides.specs.Operations.{joining, both, side_of}
+use Rattle.sides.specs.Kept.{kept_of, side_marked}
+use Rattle.join.specs.Joinings.{result_of, joined_in, Joined, contents, Gives}
 
 pub record Sized (op : Op) (a b : List ℤ) (n : ℕ) : Type 0 where
   pub is : n ≡ length (result_of op a b)
@@ -33,7 +33,7 @@ side_result op a b = map (side_marked op a b) (in_order (kept (joining op) (both
 -- ---- writing
 
 abbrev pub written : Op → List ℤ → List ℤ → List ℤ → List ℤ
-written op a b lent = contents (joined (side_result op a b)) lent
+written op a b lent = contents (Ok (side_result op a b)) lent
 
 abbrev pub with_record : List ℤ → ℕ → Record → List ℤ
 with_record lent n r = sets lent (width * n) (numbers (r ∷ []))
@@ -46,11 +46,9 @@ pub record Took (kept : Record → Bool) (mark : Record → Record) (r : Record)
   pub counts : m ≡ n + ind (kept r)
   pub leaves : out ≡ cond (kept r) (with_record lent n (mark r)) lent
 
-abbrev pub TookFirst : Op → List ℤ → List ℤ → ℕ → List ℤ → ℕ → List ℤ → ℕ → Type 0
-TookFirst op a b i lent n out m = Took (kept_first op a b) (side_marked op a b) (record_at a i) lent n out m
-
-abbrev pub TookSecond : Op → List ℤ → List ℤ → ℕ → List ℤ → ℕ → List ℤ → ℕ → Type 0
-TookSecond op a b j lent n out m = Took (kept_second op a b) (side_marked op a b) (record_at b j) lent n out m
+abbrev pub TookNext : Which → Op → List ℤ → List ℤ → ℕ → List ℤ → ℕ → List ℤ → ℕ → Type 0
+TookNext which op a b k lent n out m =
+    Took (kept_of which op a b) (side_marked op a b) (record_at (side_of which a b) k) lent n out m
 
 -- ---- joining
 

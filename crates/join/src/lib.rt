@@ -4,76 +4,100 @@
 #![tactic(auto)]
 
 ghost use Rattle.std.specs.Prelude.{◌≡◌, ◌+◌, ◌*◌, ◌≤◌, length};
-ghost use Rattle.counts.specs.Scan.{Found, Counted};
-ghost use Rattle.record.specs.Records.{width, record_at};
+ghost use Rattle.counts.specs.Scan.{first_place, count_places};
+ghost use Rattle.record.specs.Records.{width, record_at, record_count};
 ghost use Rattle.chart.specs.Regions.{Region};
-ghost use Rattle.sides.specs.Kept.{kept_first, kept_second};
-ghost use Rattle.join.specs.Joinings.{result_of, touches_in, none_named, answer_of, Joins};
-ghost use Rattle.join.specs.Steps.{Sized, written, with_record, Room, TookFirst, TookSecond, SoundJoins};
+ghost use Rattle.sides.specs.Operations.{side_of};
+ghost use Rattle.sides.specs.Kept.{kept_of};
+ghost use Rattle.join.specs.Joinings.{result_of, touches_in, told_joining, named, Joins};
+ghost use Rattle.join.specs.Steps.{Sized, written, with_record, Room, TookNext, SoundJoins};
 
-use chart::{LIMIT, Refusal, Verdict, check};
+use chart::{Chart, ChartRefusal, LIMIT, Refusal};
 use grid::number_at;
-use parts::{Head, head_of};
-use record::{Record, WIDTH, record_at};
+use parts::{Which, head_of};
+use record::{Record, WIDTH, record_at, record_count};
 use segment::segment_of;
-use sides::{Op, is_kept_first, is_kept_second, marked_afresh};
+use sides::{Op, Pair};
 
-// What joining gives: how many records were written, or why none were and which chart, the first or the second, is to
-// blame; 0 where neither is by itself.
-#[derive(Clone, Copy)]
-pub enum Joined {
-    Records(usize),
-    Refused { chart: u8, refusal: Refusal },
+// ---- why two arrays are not joined
+
+// Either is no chart; or, which is no fault of one chart alone: a segment of one touches a segment of the other, at a
+// record of the first; the result has more records than a chart may have; the lent array is shorter than it.
+#[derive(Clone, Copy, Debug, PartialEq, Eq)]
+pub enum JoinRefusal {
+    First(ChartRefusal),
+    Second(ChartRefusal),
+    Touching(usize),
+    TooMany,
+    NoRoom,
+}
+
+impl JoinRefusal {
+    // The chart that it names: 1 the first, 2 the second; 0 where it names none. A number and no enum: C reads it so,
+    // in the bits of an answer.
+    pub fn chart(self) -> u8
+        ensures { result ≡ named self }
+    {
+        match self {
+            JoinRefusal::First(_) => 1,
+            JoinRefusal::Second(_) => 2,
+            JoinRefusal::Touching(_) | JoinRefusal::TooMany | JoinRefusal::NoRoom => 0,
+        }
+    }
+}
+
+impl From<JoinRefusal> for Refusal {
+    ghost from_gives = { λ r e. e ≡ told_joining r };
+
+    fn from(r: JoinRefusal) -> Refusal {
+        match r {
+            JoinRefusal::First(r) | JoinRefusal::Second(r) => r.into(),
+            JoinRefusal::Touching(index) => Refusal { number: 11, index },
+            JoinRefusal::TooMany => Refusal {
+                number: 12,
+                index: 0,
+            },
+            JoinRefusal::NoRoom => Refusal {
+                number: 13,
+                index: 0,
+            },
+        }
+    }
 }
 
 // ---- how many
 
-#[tactic(auto, using(counts::proofs::StepLaws::summing))]
-fn count_first(op: Op, a: &[i16], b: &[i16], n: usize) -> usize
-    ensures { Counted (kept_first op a.now b.now) (record_at a.now) n result }
+// Whether record i of the one chart is kept.
+fn is_kept_at(pair: &Pair, which: Which, i: usize) -> bool
+    ensures { result ≡ kept_of which pair.now.op pair.now.a.now pair.now.b.now
+        (record_at (side_of which pair.now.a.now pair.now.b.now) i) }
 {
-    let mut i = 0;
-    let mut m = 0;
-    while i < n {
-        let r = record_at(a, i);
-        if is_kept_first(op, a, b, r) {
-            m += 1;
-        }
-        i += 1;
-    }
-    m
+    pair.is_kept(which, record_at(pair.of(which), i))
 }
 
-#[tactic(auto, using(counts::proofs::StepLaws::summing))]
-fn count_second(op: Op, a: &[i16], b: &[i16], n: usize) -> usize
-    ensures { Counted (kept_second op a.now b.now) (record_at b.now) n result }
+// How many of its records are.
+fn count_kept(pair: &Pair, which: Which) -> usize
+    ensures { result ≡ count_places (kept_of which pair.now.op pair.now.a.now pair.now.b.now)
+        (record_at (side_of which pair.now.a.now pair.now.b.now))
+        (record_count (side_of which pair.now.a.now pair.now.b.now)) }
 {
-    let mut i = 0;
-    let mut m = 0;
-    while i < n {
-        let r = record_at(b, i);
-        if is_kept_second(op, a, b, r) {
-            m += 1;
-        }
-        i += 1;
-    }
-    m
+    (0..record_count(pair.of(which)))
+        .filter(|&i| is_kept_at(pair, which, i))
+        .count()
 }
 
 // How many records the result has.
-#[tactic(auto, using(crate::proofs::Sets::sized))]
-fn result_size(op: Op, a: &[i16], b: &[i16]) -> usize
-    ensures { Sized op a.now b.now result }
+fn result_size(pair: &Pair) -> usize
+    ensures { Sized pair.now.op pair.now.a.now pair.now.b.now result }
 {
-    let first = a.len() / WIDTH;
-    let second = b.len() / WIDTH;
-    count_first(op, a, b, first) + count_second(op, a, b, second)
+    count_kept(pair, Which::First) + count_kept(pair, Which::Second)
 }
 
 // ---- writing
 
-// The record becomes record n of the array.
-#[tactic(auto, using(crate::proofs::Sets::put_there))]
+// The record becomes record n of the array. The array is lent, at the boundary by C, so it is no container that grows:
+// how many records stand at its start goes beside it.
+#[tactic(auto, using(crate::proofs::PutLaws::record_put))]
 fn put(r: Record, out: &mut [i16], n: usize)
     requires { width * n + width ≤ length out.old }
     ensures { out.new ≡ with_record out.old n r }
@@ -86,139 +110,91 @@ fn put(r: Record, out: &mut [i16], n: usize)
     out[to + 4] = number_at(r.mark);
 }
 
-// Record i of the first chart is next: it becomes record n of the array where it is kept. The number of records then.
+// Record k of the one chart is next: it becomes record n of the array where it is kept. The number of records then.
 #[tactic(auto, using(crate::proofs::StepLaws::taking))]
-fn take_first(op: Op, a: &[i16], b: &[i16], i: usize, out: &mut [i16], n: usize) -> usize
-    requires { Room (kept_first op a.now b.now) (record_at a.now i) out.old n }
-    ensures { TookFirst op a.now b.now i out.old n out.new result }
+fn take(pair: &Pair, which: Which, k: usize, out: &mut [i16], n: usize) -> usize
+    requires { Room (kept_of which pair.now.op pair.now.a.now pair.now.b.now)
+        (record_at (side_of which pair.now.a.now pair.now.b.now) k) out.old n }
+    ensures { TookNext which pair.now.op pair.now.a.now pair.now.b.now k out.old n out.new result }
 {
-    let r = record_at(a, i);
-    if is_kept_first(op, a, b, r) {
-        put(marked_afresh(op, a, b, r), out, n);
-        return n + 1;
+    let r = record_at(pair.of(which), k);
+    if !pair.is_kept(which, r) {
+        return n;
     }
-    n
+    put(pair.marked_afresh(r), out, n);
+    n + 1
 }
 
-// The same of record j of the second.
-#[tactic(auto, using(crate::proofs::StepLaws::taking))]
-fn take_second(op: Op, a: &[i16], b: &[i16], j: usize, out: &mut [i16], n: usize) -> usize
-    requires { Room (kept_second op a.now b.now) (record_at b.now j) out.old n }
-    ensures { TookSecond op a.now b.now j out.old n out.new result }
-{
-    let r = record_at(b, j);
-    if is_kept_second(op, a, b, r) {
-        put(marked_afresh(op, a, b, r), out, n);
-        return n + 1;
-    }
-    n
-}
-
-// Both charts at once, always on at the smaller head.
-#[tactic(auto, using(crate::proofs::WriteLaws::left, crate::proofs::WriteLaws::writing, crate::proofs::Sets::second_next))]
-fn write(op: Op, a: &[i16], b: &[i16], out: &mut [i16])
-    requires region { Region a.now × Region b.now }
-    requires room { width * length (result_of op a.now b.now) ≤ length out.old }
-    ensures { out.new ≡ written op a.now b.now out.old }
+// Both charts at once, always on at the smaller head. No `for`: no range or iterator gives these steps, since which of
+// the two goes on is known only from both heads.
+#[tactic(auto, using(crate::proofs::WriteLaws::left, crate::proofs::WriteLaws::writing))]
+fn write(pair: &Pair, out: &mut [i16])
+    requires region { Region pair.now.a.now × Region pair.now.b.now }
+    requires room { width * length (result_of pair.now.op pair.now.a.now pair.now.b.now) ≤ length out.old }
+    ensures { out.new ≡ written pair.now.op pair.now.a.now pair.now.b.now out.old }
 {
     let mut i = 0;
     let mut j = 0;
     let mut n = 0;
-    loop {
-        let from_a = WIDTH * i;
-        let from_b = WIDTH * j;
-        let h = head_of(&a[from_a..], &b[from_b..]);
-        match h {
-            Head::First => {
-                n = take_first(op, a, b, i, out, n);
+    while let Some(which) = head_of(&pair.a[WIDTH * i..], &pair.b[WIDTH * j..]) {
+        match which {
+            Which::First => {
+                n = take(pair, Which::First, i, out, n);
                 i += 1;
             }
-            Head::Second => {
-                n = take_second(op, a, b, j, out, n);
+            Which::Second => {
+                n = take(pair, Which::Second, j, out, n);
                 j += 1;
             }
-            Head::Neither => return,
         }
     }
 }
 
 // ---- joining
 
-#[tactic(auto, using(crate::proofs::Sets::touches))]
 fn is_touched_in(b: &[i16], r: Record) -> bool
     ensures { result ≡ touches_in b.now r }
 {
     among::is_touched(b, segment_of(r))
 }
 
-// The first of n records of the first chart whose segment touches one of the second.
-#[tactic(auto, using(counts::proofs::StepLaws::looking))]
-fn first_touching(a: &[i16], b: &[i16], n: usize) -> usize
-    ensures { Found (touches_in b.now) (record_at a.now) 0 n result }
+// The first record of the first chart whose segment touches one of the second.
+fn first_touching(a: &[i16], b: &[i16]) -> Option<usize>
+    ensures { result ≡ first_place (touches_in b.now) (record_at a.now) (record_count a.now) }
 {
-    let mut i = 0;
-    while i < n {
-        let r = record_at(a, i);
-        if is_touched_in(b, r) {
-            return i;
-        }
-        i += 1;
-    }
-    n
+    (0..record_count(a)).find(|&i| is_touched_in(b, record_at(a, i)))
 }
 
-fn refused(number: u16, index: usize) -> Joined
-    ensures { result ≡ answer_of (none_named number index) }
-{
-    Joined::Refused {
-        chart: 0,
-        refusal: Refusal { number, index },
-    }
-}
-
-// Two charts that are accepted. Nothing is written before it is known that all of it can be.
-#[tactic(auto, using(crate::proofs::JoinLaws::outcomes))]
-fn combine_sound(op: Op, a: &[i16], b: &[i16], out: &mut [i16]) -> Joined
-    requires { Region a.now × Region b.now }
+// Two charts. Nothing is written before it is known that all of it can be.
+#[tactic(auto, unfolding(crate::specs::Joinings::joined_in))]
+fn combine_charts(op: Op, a: &Chart, b: &Chart, out: &mut [i16]) -> Result<usize, JoinRefusal>
     ensures { SoundJoins op a.now b.now out.old out.new result }
 {
-    let all = a.len() / WIDTH;
-    let touching = first_touching(a, b, all);
-    if touching < all {
-        return refused(11, touching);
+    let pair = Pair {
+        op,
+        a: a.numbers(),
+        b: b.numbers(),
+    };
+    if let Some(i) = first_touching(pair.a, pair.b) {
+        return Err(JoinRefusal::Touching(i));
     }
-    let n = result_size(op, a, b);
-    let m = WIDTH * n;
+    let n = result_size(&pair);
     if LIMIT < n {
-        return refused(12, 0);
+        return Err(JoinRefusal::TooMany);
     }
-    if out.len() < m {
-        return refused(13, 0);
+    if out.len() < WIDTH * n {
+        return Err(JoinRefusal::NoRoom);
     }
-    write(op, a, b, out);
-    Joined::Records(n)
+    write(&pair, out);
+    Ok(n)
 }
 
 // Joins two charts into the lent array, or says why not.
-#[tactic(auto, using(crate::proofs::JoinLaws::outcomes))]
-pub fn combine(op: Op, a: &[i16], b: &[i16], out: &mut [i16]) -> Joined
+#[tactic(auto, unfolding(crate::specs::Joinings::outcome))]
+pub fn combine(op: Op, a: &[i16], b: &[i16], out: &mut [i16]) -> Result<usize, JoinRefusal>
     ensures { Joins op a.now b.now out.old out.new result }
 {
-    let v = check(a);
-    match v {
-        Verdict::Accepted => {
-            let w = check(b);
-            match w {
-                Verdict::Accepted => combine_sound(op, a, b, out),
-                Verdict::Refused(r) => Joined::Refused {
-                    chart: 2,
-                    refusal: r,
-                },
-            }
-        }
-        Verdict::Refused(r) => Joined::Refused {
-            chart: 1,
-            refusal: r,
-        },
-    }
+    let first = Chart::new(a).map_err(JoinRefusal::First)?;
+    let second = Chart::new(b).map_err(JoinRefusal::Second)?;
+    combine_charts(op, &first, &second, out)
 }

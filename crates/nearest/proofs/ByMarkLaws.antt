@@ -24,7 +24,7 @@ use Rattle.chart.specs.Regions.{Sound}
 use Rattle.region.specs.Boundaries.{below, nearest}
 use Rattle.region.proofs.MarkLaws.{nearest-mark, nearest-none}
 use Rattle.question.specs.declared.Place.TheVariants as place
-use Rattle.nearest.specs.declared.Nearest.TheVariants as near
+use Rattle.std.specs.Prelude.{Some, None, Ok}
 use Rattle.question.specs.Places.{by_count}
 use Rattle.nearest.specs.Nearests.{nearest_of, by_mark}
 
@@ -44,7 +44,7 @@ module _ (s : List ℤ) (n : ℕ) (p : Point) (sound : Sound (first_records s n)
         none : any (nearest (first_records s n) p) (first_records s n) ≡ false
         none = sym (found-any _ (record_at s) near) ∙ le-ltb k n (omega arith)
 
-  pub by_mark-by_count : by_mark s (nearest_of s n p) ≡ by_count (first_records s n) p
+  pub by_mark-by_count : by_mark s (Ok (nearest_of s n p)) ≡ Ok (by_count (first_records s n) p)
   unfolding nearest_of
   by_mark-by_count = by_place (ltb k n) refl
     where
@@ -57,10 +57,10 @@ module _ (s : List ℤ) (n : ℕ) (p : Point) (sound : Sound (first_records s n)
       found : Found (nearest (first_records s n) p) (record_at s) 0 n k
       found = record { is = refl; low = zero-le; high = high }
 
-      by_place : (b : Bool) → ltb k n ≡ b → by_mark s (cond b (near.At k) near.Nothing) ≡ by_count (first_records s n) p
+      by_place : (b : Bool) → ltb k n ≡ b → by_mark s (Ok (cond b (Some k) None)) ≡ Ok (by_count (first_records s n) p)
       by_place true e =
           let l : k < n = ltb-true k n e in
-          ap (λ b. cond b place.Inside place.Outside) (below-named found (omega arith) refl)
+          ap (λ b. Ok (cond b place.Inside place.Outside)) (below-named found (omega arith) refl)
       by_place false e =
           let l : n ≤ k = ltb-false k n e in
-          ap (λ b. cond b place.Inside place.Outside) (below-nothing found (omega (arith, high)))
+          ap (λ b. Ok (cond b place.Inside place.Outside)) (below-nothing found (omega (arith, high)))

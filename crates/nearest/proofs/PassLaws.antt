@@ -1,5 +1,6 @@
 -- The highest below a point, in one pass (specs/Passes.antt).
 --     Climbing s p b i             what its loop holds: the highest of the first i records stands at b
+--     climb_first                  it holds where the first that is counted below stands, or past the end
 --     climb-start, -take, -keep, -end    from step to step, as the program finds record i higher or not
 --     highest-nearest              in a sound chart it comes to the first that is nearest
 --     highest-found                so what the program finds is that
@@ -11,7 +12,10 @@ use Prim.Native.Nat.{ℕ, zero, suc, ◌+◌, ◌-◌, ◌<◌, ◌≤◌, zero-
 use native.Mathlib.Numerals.{add-one}
 use native.Mathlib.Omega.{arith}
 use lib.IntN.{ℤ}
-use Rattle.counts.specs.Scan.{first_from, Found}
+use Rattle.std.specs.Prelude.{Option}
+use Rattle.std.specs.Option.{unwrap_or}
+use Rattle.counts.specs.Scan.{first_from, Found, first_place}
+use Rattle.counts.proofs.PlaceLaws.{first_place_found}
 use Rattle.counts.proofs.ScanLaws.{first_from-high}
 use Rattle.counts.proofs.TopmostLaws.{topmost-start}
 use Rattle.plane.specs.declared.Point.{Point}
@@ -42,6 +46,11 @@ module _ (s : List ℤ) (p : Point) where
     within = h.high;
     rest = ap (λ f. climb s p f f (record_count s - f)) h.is;
   }
+
+  pub climb_first : {o : Option ℕ} {n b : ℕ} → n ≡ record_count s
+      → o ≡ first_place (counted p) (record_at s) (record_count s) → b ≡ unwrap_or o n → Climbing s p b b
+  climb_first h e g =
+      climb-start (rw (g, e, h) (first_place_found (counted p) (record_at s) (record_count s)))
 
   module _ {b i : ℕ} (so_far : Climbing s p b i) where
     climb-next : i < record_count s

@@ -10,17 +10,17 @@ use borrow.Author.Tests.{lt-ltb, lt-leb}
 use lib.Dec.{ltb, leb, eqb}
 use lib.ListN.{length, get_or, take}
 use Rattle.counts.specs.Count.{first_index}
-use Rattle.number.specs.declared.Number.{Number}
-use Rattle.number.specs.declared.Number.TheVariants.{Value}
-use Rattle.number.specs.Numbers.{goes_on, bits, last_of, value_of, refused, number_in}
+use Rattle.std.specs.Prelude.{Err}
+use Rattle.number.specs.declared.NumberRefusal.TheVariants.{Ends, Overlong}
+use Rattle.number.specs.Numbers.{Number, got, goes_on, bits, last_of, value_of, number_in}
 use Rattle.number.specs.Groups.{last_group, third_group, second_group, first_group}
 
 -- the number whose last group is the one after k others
 abbrev chosen : ℕ → List ℕ → ℕ → Number
 chosen k bs at =
-    cond (ltb 2 k) (refused 32 at)
-    (cond (leb (length bs) k) (refused 31 at)
-    (cond (ltb 0 k && eqb (get_or bs k 0) 0) (refused 32 at) (Value (value_of (take (k + 1) bs)) (at + (k + 1)))))
+    cond (ltb 2 k) (Err (Overlong at))
+    (cond (leb (length bs) k) (Err (Ends at))
+    (cond (ltb 0 k && eqb (get_or bs k 0) 0) (Err (Overlong at)) (got (value_of (take (k + 1) bs)) (at + (k + 1)))))
 
 abbrev next : Bool → ℕ → ℕ
 next high k = cond (not high) 0 (suc k)
@@ -32,7 +32,7 @@ third a b [] at = refl
 third a b (c ∷ bs) at = go (goes_on c)
   where
     go : (high : Bool) → chosen (suc (suc (next high (last_of bs)))) (a ∷ b ∷ c ∷ bs) at
-        ≡ cond high (refused 32 at) (last_group c (bits a + 128 * bits b + 16384 * bits c) at (at + 3))
+        ≡ cond high (Err (Overlong at)) (last_group c (bits a + 128 * bits b + 16384 * bits c) at (at + 3))
     go true = rw (lt-ltb 2 (suc (suc (suc (last_of bs)))) (omega arith)) refl
     go false =
         let low = bits a + 128 * bits b in
@@ -57,7 +57,7 @@ number_in-groups [] at = refl
 number_in-groups (a ∷ bs) at = go (goes_on a)
   where
     go : (high : Bool) → chosen (next high (last_of bs)) (a ∷ bs) at
-        ≡ cond high (second_group (bits a) bs at) (Value (bits a) (at + 1))
+        ≡ cond high (second_group (bits a) bs at) (got (bits a) (at + 1))
     go true = second a bs at
     go false =
         let value : bits a + 128 * 0 ≡ bits a = omega arith in

@@ -1,30 +1,33 @@
 // One number of a chart file: groups of seven bits, lowest first, a byte each.
 #![tactic(auto)]
 
-ghost use Rattle.std.specs.Prelude.{◌≡◌, ◌+◌, ◌≤◌, ◌<◌, length, drop};
-ghost use Rattle.number.specs.Numbers.{refused, bits, number_at, signed};
-ghost use Rattle.number.specs.Groups.{last_group, third_group, second_group};
+ghost use Rattle.std.specs.Prelude.{◌≡◌};
+ghost use Rattle.number.specs.Numbers.{bits, told, number_at, signed};
 
 use chart::Refusal;
 
-// A number and the place after it, or why there is none.
-#[derive(Clone, Copy)]
-pub enum Number {
-    Value { value: u32, next: usize },
-    Refused(Refusal),
+// Why there is no number, with the place of its first byte.
+#[derive(Clone, Copy, Debug, PartialEq, Eq)]
+pub enum NumberRefusal {
+    // 31: the bytes end inside the number or before it.
+    Ends(usize),
+    // 32: a third group that goes on, or a last group of zero after another.
+    Overlong(usize),
 }
 
-// The high bit of a byte; without it, its seven bits.
+impl From<NumberRefusal> for Refusal {
+    ghost from_gives = { λ r e. e ≡ told r };
+
+    fn from(r: NumberRefusal) -> Refusal {
+        match r {
+            NumberRefusal::Ends(index) => Refusal { number: 31, index },
+            NumberRefusal::Overlong(index) => Refusal { number: 32, index },
+        }
+    }
+}
+
+// The high bit of a byte, set where another group follows; without it, its seven bits.
 const HIGH: u8 = 128;
-
-fn refused(number: u16, place: usize) -> Number
-    ensures { result ≡ refused number place }
-{
-    Number::Refused(Refusal {
-        number,
-        index: place,
-    })
-}
 
 fn bits_of(b: u8) -> u32
     ensures { result ≡ bits b }
@@ -32,65 +35,22 @@ fn bits_of(b: u8) -> u32
     (b % HIGH) as u32
 }
 
-// A last group after another, and the number that it ends. A zero adds nothing: there is a shorter form.
-fn last_group(b: u8, value: u32, at: usize, next: usize) -> Number
-    ensures { result ≡ last_group b value at next }
-{
-    if b == 0 {
-        return refused(32, at);
-    }
-    Number::Value { value, next }
-}
-
-// The number at the place `at` whose first two groups give `low`.
+// The number at the place `at` of a file, and the place after it. A last group of zero adds nothing: there is a
+// shorter form.
 #[tactic(auto, using(crate::proofs::GroupLaws::grouping))]
-fn third_group(bytes: &[u8], low: u32, at: usize) -> Number
-    requires { (low < 16384) × (at + 2 ≤ length bytes.now) }
-    ensures { result ≡ third_group low (drop (at + 2) bytes.now) at }
-{
-    let third = at + 2;
-    if bytes.len() <= third {
-        return refused(31, at);
-    }
-    let b = bytes[third];
-    if HIGH <= b {
-        return refused(32, at);
-    }
-    last_group(b, low + 16384 * bits_of(b), at, at + 3)
-}
-
-// The number at the place `at` whose first group gives `low`.
-#[tactic(auto, using(crate::proofs::GroupLaws::grouping))]
-fn second_group(bytes: &[u8], low: u32, at: usize) -> Number
-    requires { (low < 128) × (at + 1 ≤ length bytes.now) }
-    ensures { result ≡ second_group low (drop (at + 1) bytes.now) at }
-{
-    let second = at + 1;
-    if bytes.len() <= second {
-        return refused(31, at);
-    }
-    let b = bytes[second];
-    if HIGH <= b {
-        return third_group(bytes, low + 128 * bits_of(b), at);
-    }
-    last_group(b, low + 128 * bits_of(b), at, at + 2)
-}
-
-// The number at the place `at` of a file.
-#[tactic(auto, using(crate::proofs::GroupLaws::grouping))]
-pub fn take_number(bytes: &[u8], at: usize) -> Number
+pub fn take_number(bytes: &[u8], at: usize) -> Result<(u32, usize), NumberRefusal>
     ensures { result ≡ number_at bytes.now at }
 {
-    if bytes.len() <= at {
-        return refused(31, at);
-    }
-    let b = bytes[at];
-    if HIGH <= b {
-        return second_group(bytes, bits_of(b), at);
-    }
-    Number::Value {
-        value: bits_of(b),
-        next: at + 1,
+    match bytes.get(at..).unwrap_or(&[]) {
+        [a @ ..HIGH, ..] => Ok((bits_of(*a), at + 1)),
+        [_, 0, ..] => Err(NumberRefusal::Overlong(at)),
+        [a, b @ ..HIGH, ..] => Ok((bits_of(*a) + 128 * bits_of(*b), at + 2)),
+        [_, _, 0 | HIGH.., ..] => Err(NumberRefusal::Overlong(at)),
+        [a, b, c, ..] => Ok((
+            bits_of(*a) + 128 * bits_of(*b) + 16384 * bits_of(*c),
+            at + 3,
+        )),
+        _ => Err(NumberRefusal::Ends(at)),
     }
 }
 

@@ -1,5 +1,5 @@
 -- Laws of the parts that are handed back (specs/Parts.antt), case by case as a program finds them.
---     from_second-short, from_second-alone, from_second-both  by which arrays have a whole record
+--     from_second-alone, from_second-both  by which arrays have a whole record
 --     from_second-whole        the second array's head is there if it is the smaller
 --     head_of-second, head_of-neither, head_of-first         which array holds the smaller head, in each case
 --     first-whole, second-whole                              and that it has a whole record
@@ -8,25 +8,34 @@
 --     run_rises, run_short      the two halves of that, for a function that cuts by the run
 --     whole                     for a function's tactic line: first-whole, second-whole
 -- Assumes nothing.
-use mathlib.Core.Path.{◌≡◌, refl, sym, ap, subst}
+use mathlib.Core.Path.{◌≡◌, refl, sym, ap, ◌∙◌, subst}
 use mathlib.Core.Logic.{◌⊎◌, inl, inr}
 use mathlib.Core.Bool.{Bool, true, false, cond}
 use mathlib.Core.List.{List}
-use Prim.Native.Nat.{ℕ, ◌*◌, ◌<◌, ◌≤◌, zero-le}
+use Prim.Native.Nat.{ℕ, ◌+◌, ◌-◌, ◌*◌, ◌<◌, ◌≤◌, zero-le}
 use native.Mathlib.Omega.{arith}
 use lib.IntN.{ℤ}
 use lib.ListN.{length}
-use borrow.Author.Tests.{leb-true, lt-leb, le-leb, lt-ltb, le-ltb}
-use Rattle.counts.specs.Scan.{first_from}
+use lib.Dec.{ltb}
+use borrow.Author.Tests.{leb-true, lt-leb, le-leb, lt-ltb, le-ltb, ltb-false}
+use Rattle.std.specs.Prelude.{Option, Some, None, max}
+use Rattle.std.specs.Option.{unwrap_or}
+use Rattle.counts.specs.Count.{first_index, listed}
+use Rattle.counts.specs.Scan.{first_from, first_place}
+use Rattle.counts.proofs.FirstLaws.{first_index-most}
+use Rattle.counts.proofs.ListedLaws.{listed-length}
+use Rattle.counts.proofs.PlaceLaws.{find_from, first_place_some, first_place_none}
+use Rattle.counts.proofs.StepLaws.{first_high}
 use Rattle.counts.proofs.TestLaws.{and-true, lt-or-le}
 use Rattle.counts.proofs.ScanLaws.{first_from-low, first_from-high}
 use Rattle.plane.specs.declared.Point.{Point}
 use Rattle.record.specs.Records.{width, record_at, record_count}
 use Rattle.record.specs.Order.{precedes}
 use Rattle.parts.specs.declared.Span.{Span}
-use Rattle.parts.specs.declared.Head.{Head}
-use Rattle.parts.specs.declared.Head.TheVariants.{Neither, First, Second}
-use Rattle.parts.specs.Parts.{nowhere, at_corner, off_corner, first_there, run_of, whole_record, from_second, head_of}
+use Rattle.parts.specs.declared.Which.{Which}
+use Rattle.parts.specs.declared.Which.TheVariants.{First, Second}
+use Rattle.parts.specs.Parts.{nowhere, at_corner, off_corner, first_there, run_of}
+use Rattle.parts.specs.Parts.{whole_record, from_second, head_of}
 
 abbrev pub Within : List ℤ → Span → Type 0
 Within s a = (a.from ≤ a.upto) × (a.upto ≤ length s)
@@ -34,10 +43,6 @@ Within s a = (a.from ≤ a.upto) × (a.upto ≤ length s)
 -- ---- the smaller head
 
 module _ (a b : List ℤ) where
-  pub from_second-short : length b < width → from_second a b ≡ false
-  unfolding from_second
-  from_second-short l = rw (lt-leb width (length b) l)
-
   pub from_second-alone : width ≤ length b → length a < width → from_second a b ≡ true
   unfolding from_second
   from_second-alone l h = rw (le-leb width (length b) l, lt-leb width (length a) h)
@@ -53,37 +58,38 @@ module _ (a b : List ℤ) where
 
   -- ---- which array holds it
 
-  pub head_of-second : from_second a b ≡ true → Second ≡ head_of a b
+  pub head_of-second : from_second a b ≡ true → Some Second ≡ head_of a b
   unfolding head_of
   head_of-second e = rw e
 
-  pub head_of-neither : from_second a b ≡ false → length a < width → Neither ≡ head_of a b
+  pub head_of-neither : from_second a b ≡ false → length a < width → None ≡ head_of a b
   unfolding head_of
   head_of-neither e l = rw (e, lt-leb width (length a) l)
 
-  pub head_of-first : from_second a b ≡ false → width ≤ length a → First ≡ head_of a b
+  pub head_of-first : from_second a b ≡ false → width ≤ length a → Some First ≡ head_of a b
   unfolding head_of
   head_of-first e l = rw (e, le-leb width (length a) l)
 
   -- the array that holds it has a whole record
-  abbrev Holds : Head → Type 0
-  Holds Neither = 0 ≤ 0
-  Holds First = width ≤ length a
-  Holds Second = width ≤ length b
+  abbrev Holds : Option Which → Type 0
+  Holds None = 0 ≤ 0
+  Holds (Some First) = width ≤ length a
+  Holds (Some Second) = width ≤ length b
 
   holds : Holds (head_of a b)
   unfolding head_of
   holds = go (from_second a b) (whole_record a) refl refl
     where
-      go : (c d : Bool) → from_second a b ≡ c → whole_record a ≡ d → Holds (cond c Second (cond d First Neither))
+      go : (c d : Bool) → from_second a b ≡ c → whole_record a ≡ d
+          → Holds (cond c (Some Second) (cond d (Some First) None))
       go true d e h = from_second-whole e
       go false true e h = leb-true width (length a) h
       go false false e h = zero-le
 
-  pub first-whole : head_of a b ≡ First → width ≤ length a
+  pub first-whole : head_of a b ≡ Some First → width ≤ length a
   first-whole e = subst Holds e holds
 
-  pub second-whole : head_of a b ≡ Second → width ≤ length b
+  pub second-whole : head_of a b ≡ Some Second → width ≤ length b
   second-whole e = subst Holds e holds
 
 -- ---- the run

@@ -10,12 +10,14 @@
 --     whole_record s     s has a whole record left: five numbers
 --     from_second a b    the smaller head is the second array's: it has one, and comes strictly earlier or the first
 --                        has none
---     head_of a b        which array holds the smaller head, neither where both have fewer than five numbers
+--     head_of a b        which array holds the smaller head, none where both have fewer than five numbers
 --     holder h a b, first_record h   the array of a and b that the head h is a part of, and which part
 --     SmallerHead a b r  r is the smaller head of a and b, a part of whichever holds it; else the empty part at the
 --                        first array's beginning
 -- These ask nothing of the array: it need be no chart. Assumes nothing.
 use Rattle.std.specs.Prelude.{◌≡◌, Bool, not, cond, ◌&&◌, ◌||◌, List, ℕ, ◌+◌, ◌-◌, ◌*◌, ltb, leb, ℤ, length, take, drop}
+use Rattle.std.specs.Prelude.{Option, Some, None, find}
+use Rattle.std.specs.List.{range_with_len}
 use Rattle.std.specs.Borrow.{Bor}
 use Rattle.counts.specs.Scan.{first_from}
 use Rattle.plane.specs.declared.Point.{Point}
@@ -24,8 +26,8 @@ use Rattle.record.specs.declared.Record.{Record}
 use Rattle.record.specs.Records.{width, record_at, record_count}
 use Rattle.record.specs.Order.{precedes}
 use Rattle.parts.specs.declared.Span.{Span}
-use Rattle.parts.specs.declared.Head.{Head}
-use Rattle.parts.specs.declared.Head.TheVariants.{Neither, First, Second}
+use Rattle.parts.specs.declared.Which.{Which}
+use Rattle.parts.specs.declared.Which.TheVariants.{First, Second}
 
 -- a number takes two bytes
 pub record Part (s : Bor (List ℤ)) (a : Span) (r : Bor (List ℤ)) : Type 0 where
@@ -66,18 +68,17 @@ whole_record s = leb width (length s)
 unfoldable pub from_second : List ℤ → List ℤ → Bool
 from_second a b = whole_record b && (not (whole_record a) || precedes (record_at b 0) (record_at a 0))
 
-unfoldable pub head_of : List ℤ → List ℤ → Head
-head_of a b = cond (from_second a b) Second (cond (whole_record a) First Neither)
+unfoldable pub head_of : List ℤ → List ℤ → Option Which
+head_of a b = cond (from_second a b) (Some Second) (cond (whole_record a) (Some First) None)
 
-abbrev pub holder : Head → Bor (List ℤ) → Bor (List ℤ) → Bor (List ℤ)
-holder Neither a b = a
-holder First a b = a
-holder Second a b = b
+abbrev pub holder : Option Which → Bor (List ℤ) → Bor (List ℤ) → Bor (List ℤ)
+holder None a b = a
+holder (Some First) a b = a
+holder (Some Second) a b = b
 
-abbrev pub first_record : Head → Span
-first_record Neither = nowhere
-first_record First = record { from = 0; upto = width }
-first_record Second = record { from = 0; upto = width }
+abbrev pub first_record : Option Which → Span
+first_record None = nowhere
+first_record (Some w) = record { from = 0; upto = width }
 
 abbrev pub SmallerHead : Bor (List ℤ) → Bor (List ℤ) → Bor (List ℤ) → Type 0
 SmallerHead a b r = let h = head_of a.now b.now in Part (holder h a b) (first_record h) r

@@ -7,27 +7,25 @@ ghost use Rattle.plane.specs.Turns.{plus, minus, turns_left, turns_right, straig
 ghost use Rattle.points.specs.Turning.{Product, TurnSum, turn_of};
 
 use plane::Point;
+use std::cmp::Ordering;
 
-// ---- two points
+// ---- two points: by name what `<` and `==` answer, for promises' `same-is-before` and `same-is-same` are of these
 
 pub fn is_before(p: Point, q: Point) -> bool
     ensures { result ≡ before p q }
 {
-    if p.x < q.x {
-        return true;
-    }
-    p.x == q.x && p.y < q.y
+    p < q
 }
 
 pub fn is_same(p: Point, q: Point) -> bool
     ensures { result ≡ same p q }
 {
-    p.x == q.x && p.y == q.y
+    p == q
 }
 
 // ---- three points
 
-#[derive(Clone, Copy)]
+#[derive(Clone, Copy, Debug, PartialEq, Eq)]
 pub enum Turn {
     Left,
     Straight,
@@ -41,6 +39,7 @@ pub fn product(a: u16, b: u16) -> u64
     (a as u64) * (b as u64)
 }
 
+// What is added and what is taken away in the determinant: two sums of other products.
 fn plus_of(p: Point, q: Point, r: Point) -> u64
     ensures { TurnSum (plus p q r) result }
 {
@@ -58,35 +57,32 @@ fn minus_of(p: Point, q: Point, r: Point) -> u64
 pub fn turn_of(p: Point, q: Point, r: Point) -> Turn
     ensures { result ≡ turn_of p q r }
 {
-    let plus = plus_of(p, q, r);
-    let minus = minus_of(p, q, r);
-    if minus < plus {
-        return Turn::Left;
+    match minus_of(p, q, r).cmp(&plus_of(p, q, r)) {
+        Ordering::Less => Turn::Left,
+        Ordering::Equal => Turn::Straight,
+        Ordering::Greater => Turn::Right,
     }
-    if plus < minus {
-        return Turn::Right;
-    }
-    Turn::Straight
 }
 
-// The three answers one by one, for callers that ask for a single one.
-#[tactic(auto, unfolding(plane::specs::Turns::turns_left))]
+// The three answers one by one, for callers that ask for a single one: `same-turns-left`, `same-turns-right` and
+// `same-is-straight` are of these.
+#[tactic(auto, unfolding(crate::specs::Turning::turn_of, plane::specs::Turns::turns_left, plane::specs::Turns::turns_right))]
 pub fn turns_left(p: Point, q: Point, r: Point) -> bool
     ensures { result ≡ turns_left p q r }
 {
-    minus_of(p, q, r) < plus_of(p, q, r)
+    turn_of(p, q, r) == Turn::Left
 }
 
-#[tactic(auto, unfolding(plane::specs::Turns::turns_right))]
+#[tactic(auto, unfolding(crate::specs::Turning::turn_of, plane::specs::Turns::turns_left, plane::specs::Turns::turns_right))]
 pub fn turns_right(p: Point, q: Point, r: Point) -> bool
     ensures { result ≡ turns_right p q r }
 {
-    plus_of(p, q, r) < minus_of(p, q, r)
+    turn_of(p, q, r) == Turn::Right
 }
 
-#[tactic(auto, unfolding(plane::specs::Turns::straight))]
+#[tactic(auto, unfolding(crate::specs::Turning::turn_of, plane::specs::Turns::turns_left, plane::specs::Turns::turns_right, plane::specs::Turns::straight))]
 pub fn is_straight(p: Point, q: Point, r: Point) -> bool
     ensures { result ≡ straight p q r }
 {
-    minus_of(p, q, r) == plus_of(p, q, r)
+    turn_of(p, q, r) == Turn::Straight
 }

@@ -9,13 +9,10 @@
 //                         chart is refused
 #![tactic(auto)]
 
-ghost use Rattle.std.specs.Prelude.{◌+◌, ◌*◌, ◌≤◌, ◌<◌, length};
+ghost use Rattle.std.specs.Prelude.{◌*◌, ◌≤◌, length};
 
-use nearest::Nearest;
+use chart::ChartRefusal;
 use question::Place;
-
-// How many bytes stand before a question's numbers.
-const HEAD: usize = 3;
 
 // The most numbers of a chart that is asked about.
 const NUMBERS: usize = 4096;
@@ -26,101 +23,73 @@ fn main() {
     answer_all(&bytes[..n]);
 }
 
-fn answer_all(s: &[u8]) {
-    let mut at = 0;
-    while HEAD <= s.len() - at {
-        let n = count_in(s, at) as usize;
-        let k = wide(s[at + 2]);
+// ---- reading
+
+fn answer_all(bytes: &[u8]) {
+    let mut rest = bytes;
+    while let [low, high, points, after @ ..] = rest {
+        let n = u16::from_le_bytes([*low, *high]) as usize;
         if NUMBERS < n {
             return;
         }
-        let size = HEAD + 2 * n + 4 * k;
-        if s.len() - at < size {
+        let Some((numbers, after)) = after.split_at_checked(2 * n) else {
             return;
-        }
-        answer(s, at + HEAD, n, k);
-        at += size;
+        };
+        let Some((points, after)) = after.split_at_checked(4 * *points as usize) else {
+            return;
+        };
+        answer(numbers, points);
+        rest = after;
     }
 }
 
-// The question about k points of a chart of n numbers, whose numbers stand from a place on.
-fn answer(s: &[u8], from: usize, n: usize, k: usize)
-    requires { (n ≤ 4096) × (from + 2 * n + 4 * k ≤ length s.now) }
-{
-    let all = numbers(s, from, n);
-    say_points(&all[0..n], s, from + 2 * n, k);
-}
-
-// ---- reading
-
-fn wide(b: u8) -> usize
-    ensures { result < 256 }
-{
-    b as usize
-}
-
-fn count_in(s: &[u8], at: usize) -> u16
-    requires { at + 1 < length s.now }
-{
-    count_by(s[at], s[at + 1])
-}
-
-fn count_by(low: u8, high: u8) -> u16 {
-    low as u16 + 256 * (high as u16)
-}
-
-fn number_in(s: &[u8], at: usize) -> i16
-    requires { at + 1 < length s.now }
-{
-    grid::number_at(count_in(s, at))
-}
-
-fn numbers(s: &[u8], from: usize, n: usize) -> [i16; 4096]
-    requires { (n ≤ 4096) × (from + 2 * n ≤ length s.now) }
-{
-    let mut all = [0i16; 4096];
-    let mut i = 0;
-    while i < n {
-        all[i] = number_in(s, from + 2 * i);
-        i += 1;
-    }
-    all
+fn number_of(low: u8, high: u8) -> i16 {
+    grid::number_at(u16::from_le_bytes([low, high]))
 }
 
 // ---- answering
 
-fn say_points(chart: &[i16], s: &[u8], from: usize, k: usize)
-    requires { from + 4 * k ≤ length s.now }
+// The question about a chart and points, two bytes for each of their numbers.
+fn answer(numbers: &[u8], points: &[u8])
+    requires { length numbers.now ≤ 2 * 4096 }
 {
-    let mut i = 0;
-    while i < k {
-        let at = from + 4 * i;
-        say_point(chart, number_in(s, at), number_in(s, at + 2));
-        i += 1;
+    let mut all = [0i16; NUMBERS];
+    let (pairs, _) = numbers.as_chunks::<2>();
+    for (number, [low, high]) in all.iter_mut().zip(pairs) {
+        *number = number_of(*low, *high);
+    }
+    let chart = &all[..pairs.len()];
+    let (points, _) = points.as_chunks::<4>();
+    for [low_x, high_x, low_y, high_y] in points {
+        say_point(
+            chart,
+            number_of(*low_x, *high_x),
+            number_of(*low_y, *high_y),
+        );
     }
 }
 
+// The answer is bytes and no text, so nothing formats it.
 fn say_point(chart: &[i16], x: i16, y: i16) {
     let place = place_number(nearest::inside_by_mark(chart, x, y));
-    let nearest = nearest_number(nearest::nearest_below(chart, x, y));
-    let said = [place, (nearest % 256) as u8, (nearest / 256) as u8];
-    io::write_all(1, &said);
+    let [low, high] = nearest_number(nearest::nearest_below(chart, x, y)).to_le_bytes();
+    io::write_all(1, &[place, low, high]);
 }
 
-fn place_number(a: Place) -> u8 {
-    match a {
-        Place::Outside => 0,
-        Place::Inside => 1,
-        Place::Edge => 2,
-        Place::Refused(_) => 3,
+fn place_number(place: Result<Place, ChartRefusal>) -> u8 {
+    match place {
+        Ok(Place::Outside) => 0,
+        Ok(Place::Inside) => 1,
+        Ok(Place::Edge) => 2,
+        Err(_) => 3,
     }
 }
 
 // A good chart has at most 512 records, so two bytes hold every index, and the remainder is the index itself.
-fn nearest_number(a: Nearest) -> u16 {
-    match a {
-        Nearest::Nothing => 65535,
-        Nearest::At(i) => (i % 65536) as u16,
-        Nearest::Refused(_) => 65534,
+fn nearest_number(nearest: Result<Option<usize>, ChartRefusal>) -> u16 {
+    match nearest {
+        Ok(Some(i)) => (i % 65536) as u16,
+        Ok(None) => 65535,
+        Err(_) => 65534,
     }
 }

@@ -20,15 +20,16 @@ use lib.IntN.{ℤ}
 use lib.Ieee.{Float}
 use lib.ListN.{length}
 use Rattle.plane.specs.declared.Point.{Point}
-use Rattle.parts.specs.declared.Head.{Head}
+use Rattle.std.specs.Prelude.{Option, Ok, pos, false}
+use Rattle.std.specs.Float.{fin}
+use Rattle.parts.specs.declared.Which.{Which}
 use Rattle.chart.specs.Verdicts.{refusal_of, verdict}
 use Rattle.question.specs.Places.{placed}
 use Rattle.question.specs.Corners.{corner_of}
 use Rattle.area.specs.Areas.{area_of}
 use Rattle.gauge.specs.declared.Card.TheVariants.{Spring, Bridge}
-use Rattle.gauge.specs.declared.Gauged.{Gauged}
-use Rattle.gauge.specs.Readings.{refused_by, Gauges}
-use Rattle.faces.specs.declared.FaceList.TheVariants.{Listed}
+use Rattle.gauge.specs.Readings.{Sampled}
+use Rattle.faces.specs.declared.answer.FaceCounts.{FaceCounts}
 use Rattle.faces.specs.Lists.{faces_of, list_refusal}
 use Rattle.sides.specs.declared.Op.{Op}
 use Rattle.join.specs.Joinings as joining
@@ -86,7 +87,7 @@ module _ (s : List ℤ) where
         (value_of a ≡ (corner_of s p).from) × (length_of a ≡ (corner_of s p).upto - (corner_of s p).from)
     corner-answer = corner-decoded s p
 
-pub head-answer : (h : Head) → Decoded (head_answer h) 0 0 0 (head_kind h)
+pub head-answer : (h : Option Which) → Decoded (head_answer h) 0 0 0 (head_kind h)
 head-answer h = packed-decoded 0 0 0 (head_kind h) (omega arith) (omega arith) (omega arith)
 
 module _ (s : List ℤ) (labels cycles : List ℕ) where
@@ -94,8 +95,8 @@ module _ (s : List ℤ) (labels cycles : List ℕ) where
       Decoded (faces_answer a) (faces_value a) (list_refusal a).number 0 0
   faces-answer = faces-decoded s labels cycles
 
-  pub faces-counts : (m k : ℕ) → let a = faces_of s (length labels) (length cycles) in
-      a ≡ Listed m k → (bits.cycles_of (faces_answer a) ≡ m) × (bits.faces_of (faces_answer a) ≡ k)
+  pub faces-counts : (c : FaceCounts) → let a = faces_of s (length labels) (length cycles) in
+      a ≡ Ok c → (bits.cycles_of (faces_answer a) ≡ c.cycles) × (bits.faces_of (faces_answer a) ≡ c.faces)
   faces-counts = counts-decoded s labels cycles
 
 pub join-answer : (op : Op) (a b lent : List ℤ) → let j = joining.answer_of (outcome op a b (length lent)) in
@@ -109,20 +110,17 @@ read-answer s lent = read-decoded s lent
 -- ---- samples
 
 module _ (x y : Float) (n : ℤ) (r : ℕ) (p : Float) (m : ℤ) where
-  -- what is handed back
-  abbrev handed : Gauged
-  handed = record { refusal = number_of r; reading = record { pressure = p; row = m } }
-
   pub gauge-answer : (k : ℕ) → SampleRead k x y n r p m → Decoded r 0 (number_of r) 0 0
   gauge-answer k h = sample-decoded k x y n r p m h
 
-  pub gauge-spring : SampleRead 0 x y n r p m → Gauges (Spring x y) n handed
+  pub gauge-spring : SampleRead 0 x y n r p m → Sampled (Spring x y) n (number_of r) p m
   gauge-spring h = by-spring x y n h.reads
 
-  pub gauge-bridge : SampleRead 1 x y n r p m → Gauges (Bridge x y) n handed
+  pub gauge-bridge : SampleRead 1 x y n r p m → Sampled (Bridge x y) n (number_of r) p m
   gauge-bridge h = by-bridge x y n h.reads
 
-  pub gauge-other : (k : ℕ) → 1 < k → SampleRead k x y n r p m → handed ≡ refused_by 21
+  pub gauge-other : (k : ℕ) → 1 < k → SampleRead k x y n r p m
+      → (number_of r ≡ 21) × (p ≡ fin false 0 (pos 0)) × (m ≡ pos 0)
   gauge-other k l h = by-neither k x y n l h.reads
 
 -- ---- one outcome

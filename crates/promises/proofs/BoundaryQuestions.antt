@@ -14,16 +14,16 @@ use lib.Dec.{eqb}
 use lib.IntN.{ℤ}
 use lib.Ieee.{Float}
 use Rattle.parts.specs.Parts.{head_of}
-use Rattle.area.specs.declared.Area.{Area}
-use Rattle.area.specs.declared.Area.TheVariants.{Twice, Refused}
-use Rattle.area.specs.Areas.{area_refusal, area_of}
+use Rattle.std.specs.Prelude.{Result, Ok, Err}
+use Rattle.chart.specs.declared.ChartRefusal.{ChartRefusal}
+use Rattle.chart.specs.Verdicts.{refusal_of}
+use Rattle.area.specs.Areas.{area_of}
 use Rattle.gauge.specs.declared.Card.TheVariants.{Spring, Bridge}
-use Rattle.gauge.specs.declared.Gauged.{Gauged}
-use Rattle.gauge.specs.Readings.{refused_by, Gauges}
+use Rattle.gauge.specs.Readings.{Sampled}
 use Rattle.sides.specs.declared.Op.{Op}
 use Rattle.rig.specs.Bits.{number_of}
 use Rattle.rig.specs.Answers.{area_left, Combines}
-use Rattle.rig.specs.Gauging.{KindGauges, SampleRead}
+use Rattle.rig.specs.Gauging.{KindGauges, NoCard, SampleRead}
 use Rattle.rig.proofs.bz_check.Kinds as bz-check-kinds
 use Rattle.rig.proofs.bz_check.Reads as bz-check
 use Rattle.rig.proofs.bz_check.Statement as bz-check-statement
@@ -104,13 +104,13 @@ pub record BoundaryQuestions : Type 2 where
 
 -- ---- how the answers end
 
-area-left : (s : List ℤ) (lent : ℤ) (k : ℕ) → k ≡ (area_refusal (area_of s)).number
+area-left : (s : List ℤ) (lent : ℤ) (k : ℕ) → k ≡ (refusal_of (area_of s)).number
     → Ends ℤ k lent (area_left (area_of s) lent)
 area-left s lent k e = go (area_of s) e (rw e (area-ends s))
   where
-    go : (a : Area) → k ≡ (area_refusal a).number → Numbered k → Ends ℤ k lent (area_left a lent)
-    go (Twice z) n h = inl n
-    go (Refused r) n h = ⊎_elim inl (λ t. inr (t, refl)) h
+    go : (a : Result ℤ ChartRefusal) → k ≡ (refusal_of a).number → Numbered k → Ends ℤ k lent (area_left a lent)
+    go (Ok z) n h = inl n
+    go (Err r) n h = ⊎_elim inl (λ t. inr (t, refl)) h
 
 joins-end : (op : Op) (a b lent out : List ℤ) (n : ℕ) → Combines op a b lent out n
     → Ends (List ℤ) (number_of n) lent out
@@ -124,15 +124,13 @@ sample-end : (k : ℕ) (x y : Float) (n : ℤ) (r : ℕ) (p : Float) (m : ℤ) �
 unfolding KindGauges
 sample-end k x y n r p m h = go (eqb k 0) (eqb k 1) h.reads
   where
-    handed : Gauged
-    handed = record { refusal = number_of r; reading = record { pressure = p; row = m } }
-
     go : (a b : Bool)
-        → cond a (Gauges (Spring x y) n handed) (cond b (Gauges (Bridge x y) n handed) (handed ≡ refused_by 21))
+        → cond a (Sampled (Spring x y) n (number_of r) p m)
+        (cond b (Sampled (Bridge x y) n (number_of r) p m) (NoCard (number_of r) p m))
         → Numbered (number_of r)
     go true b g = rw g.number (sample-ends (Spring x y) n)
     go false true g = rw g.number (sample-ends (Bridge x y) n)
-    go false false g = let number : number_of r ≡ 21 = ap (λ t. t.refusal) g in inr (rw number refl)
+    go false false g = inr (rw g.0 refl)
 
 pub boundary-questions : BoundaryQuestions
 boundary-questions = record {

@@ -6,7 +6,7 @@
 --     faces-end, join-end, read-end           those that are lent arrays
 --     sample-ends, number-end                 a gauge sample; one number of a file
 -- Assumes nothing.
-use mathlib.Core.Path.{◌≡◌, refl, sym, ap, ap₂}
+use mathlib.Core.Path.{◌≡◌, refl, sym, ap, ap₂, ◌∙◌}
 use mathlib.Core.Logic.{inl, inr, ⊎_elim}
 use mathlib.Core.Bool.{Bool, true, false, not, cond, ◌||◌}
 use mathlib.Core.List.{List, [], ◌∷◌}
@@ -22,21 +22,18 @@ use Rattle.grid.specs.Coordinates.{on_grid}
 use Rattle.plane.specs.declared.Point.{Point}
 use Rattle.chart.specs.Verdicts.{refusal_of, verdict}
 use Rattle.chart.proofs.IndexLaws.{verdict-told}
-use Rattle.question.specs.Places.{placed, place_refusal}
-use Rattle.nearest.specs.Nearests.{nearest_below, nearest_refusal}
-use Rattle.area.specs.Areas.{area_of, area_refusal}
-use Rattle.faces.specs.declared.FaceList.{FaceList}
-use Rattle.faces.specs.Lists.{list_refusal, Lists}
+use Rattle.question.specs.Places.{placed}
+use Rattle.nearest.specs.Nearests.{nearest_below}
+use Rattle.area.specs.Areas.{area_of}
+use Rattle.faces.specs.Lists.{FaceList, list_refusal, Lists}
 use Rattle.sides.specs.declared.Op.{Op}
-use Rattle.join.specs.declared.Joined.{Joined}
-use Rattle.join.specs.Joinings.{join_refusal, chart_named, Joins}
+use Rattle.join.specs.Joinings.{Joined, join_refusal, chart_named, Joins}
 use Rattle.join.proofs.OutcomeLaws.{Told, first, second, neither}
 use Rattle.gauge.specs.declared.Card.{Card}
 use Rattle.gauge.specs.Readings.{pressure, row, at_pin, refusal}
 use Rattle.gauge.specs.Cards.{sound}
 use Rattle.number.specs.Numbers.{number_at, number_refusal}
-use Rattle.file.specs.declared.Answer.{Answer}
-use Rattle.file.specs.Answers.{read_refusal, Reads}
+use Rattle.file.specs.Answers.{Answer, read_refusal, Reads}
 use Rattle.promises.specs.Endings.{is_from, is_refusal, Numbered, Ends}
 use Rattle.promises.proofs.Refusals.{point-refusal, nearest-refusal, area-refusal}
 use Rattle.promises.proofs.Faces.{faces-ends}
@@ -73,14 +70,14 @@ module _ (s : List ℤ) where
   pub chart-ends : Numbered (refusal_of (verdict s)).number
   chart-ends = own s _ refl
 
-  pub area-ends : Numbered (area_refusal (area_of s)).number
+  pub area-ends : Numbered (refusal_of (area_of s)).number
   area-ends = own s _ (ap (λ r. r.number) (area-refusal s))
 
   module _ (p : Point) where
-    pub place-ends : Numbered (place_refusal (placed s p)).number
+    pub place-ends : Numbered (refusal_of (placed s p)).number
     place-ends = own s _ (ap (λ r. r.number) (point-refusal s p))
 
-    pub nearest-ends : Numbered (nearest_refusal (nearest_below s p)).number
+    pub nearest-ends : Numbered (refusal_of (nearest_below s p)).number
     nearest-ends = own s _ (ap (λ r. r.number) (nearest-refusal s p))
 
 pub faces-end : (s : List ℤ) (labels cycles labels' cycles' : List ℕ) (a : FaceList)
@@ -90,7 +87,7 @@ faces-end s labels cycles labels' cycles' a lists =
     ⊎_elim (λ e. inl (ap (λ r. r.number) e))
     (λ w.
     let same : (labels', cycles') ≡ (labels, cycles) = ap₂ (λ l c. (l, c)) w.1.0 w.1.1 in
-    ⊎_elim (λ v. kept _ (own s _ (ap (λ u. (refusal_of u).number) (sym v))) same)
+    ⊎_elim (λ v. kept _ (own s _ (ap (λ r. r.number) v.2 ∙ ap (λ u. (refusal_of u).number) (sym v.1))) same)
     (λ v. inr (rw v.1 refl, same)) w.0)
     (faces-ends s labels cycles labels' cycles' a lists)
 
@@ -104,8 +101,8 @@ join-end op a b lent out j joins =
     k = (join_refusal j).number
 
     go : Told a b (chart_named j) (join_refusal j) → out ≡ lent → Ends (List ℤ) (join_refusal j).number lent out
-    go (first n v) same = kept k (own a k (ap (λ u. (refusal_of u).number) (sym v))) same
-    go (second n u v) same = kept k (own b k (ap (λ u. (refusal_of u).number) (sym v))) same
+    go (first n v w) same = kept k (own a k (ap (λ r. r.number) w ∙ ap (λ u. (refusal_of u).number) (sym v))) same
+    go (second n u v w) same = kept k (own b k (ap (λ r. r.number) w ∙ ap (λ u. (refusal_of u).number) (sym v))) same
     go (neither n u v e l) same = inr (out_of k (11 ∷ 12 ∷ 13 ∷ []) refl e, same)
 
 -- ---- samples and files

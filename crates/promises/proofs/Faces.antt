@@ -32,8 +32,10 @@ use lib.ListN.{length, get_or, drop}
 use lib.Signed.{lt_z}
 use Rattle.counts.specs.Count.{◌∈◌, count, places}
 use Rattle.record.specs.Records.{record_at, record_count, marked}
+use Rattle.std.specs.Prelude.{Ok, Err}
 use Rattle.chart.specs.declared.Refusal.{Refusal}
-use Rattle.chart.specs.declared.Verdict.TheVariants as verdict
+use Rattle.chart.specs.declared.ChartRefusal.{ChartRefusal}
+use Rattle.chart.specs.Verdicts as chart
 use Rattle.chart.specs.Verdicts.{no_refusal, verdict, is_accepted}
 use Rattle.chart.specs.Regions.{Region}
 use Rattle.chart.proofs.RegionLaws.{accepted-is}
@@ -45,9 +47,10 @@ use Rattle.walks.proofs.NumberLaws.{number-less, number-back}
 use Rattle.walks.proofs.RoomLaws.{cycles-halved}
 use Rattle.walks.proofs.SideLaws.{area-some, outer-mark}
 use Rattle.walks.proofs.OneOuterLaws as walk
-use Rattle.faces.specs.declared.FaceList.{FaceList}
-use Rattle.faces.specs.declared.FaceList.TheVariants.{Listed, Refused}
-use Rattle.faces.specs.Lists.{kind_of, list_refusal, Lists}
+use Rattle.faces.specs.declared.answer.FaceCounts.{FaceCounts}
+use Rattle.faces.specs.declared.FaceRefusal.{FaceRefusal}
+use Rattle.faces.specs.declared.FaceRefusal.TheVariants.{NoRoom}
+use Rattle.faces.specs.Lists.{FaceList, kind_of, told_listing, list_refusal, Lists}
 use Rattle.faces.proofs.OutcomeLaws.{Told, TooShort, lists-told, lists-untouched, lists-refusal, lists-short}
 use Rattle.faces.proofs.CycleListLaws.{label_at, kind_at, face-at, kind-told, cycle-first, beyond}
 use Rattle.faces.proofs.OrderLaws.{number-one, number-halves, number-order, number-first}
@@ -65,33 +68,38 @@ module _ (s : List ℤ) (labels cycles labels' cycles' : List ℕ) where
 
   abbrev pub Why : Refusal → Type 0
   Why r =
-      (verdict s ≡ verdict.Refused r)
-      ⊎ ((verdict s ≡ verdict.Accepted) × (r ≡ record { number = 10; index = 0 }) × short)
+      ((q : ChartRefusal) × (verdict s ≡ Err q) × (r ≡ chart.told q))
+      ⊎ ((verdict s ≡ Ok tt) × (r ≡ record { number = 10; index = 0 }) × short)
 
   module _ (a : FaceList) (lists : Lists s labels cycles labels' cycles' a) where
-    pub faces-refused : (r : Refusal) → a ≡ Refused r → Why r × untouched
+    pub faces-refused : (r : FaceRefusal) → a ≡ Err r → Why (told_listing r) × untouched
     faces-refused r e =
         let refused = subst (Lists s labels cycles labels' cycles') e lists in (
-          ⊎_elim inl (λ w. inr ((accepted-is s).1 w.0, w.1, w.2)) (lists-refusal refused),
+          ⊎_elim (λ w. inl (w.0, w.1, ap told_listing w.2))
+              (λ w. inr ((accepted-is s).1 w.0, ap told_listing w.1, w.2)) (lists-refusal refused),
           lists-untouched refused,
         )
 
-    pub faces-short : verdict s ≡ verdict.Accepted → (a ≡ Refused (record { number = 10; index = 0 })) ↔ short
+    pub faces-short : verdict s ≡ Ok tt
+        → ((a ≡ Err NoRoom) ↔ short) × (told_listing NoRoom ≡ record { number = 10; index = 0 })
     faces-short v = (
-      λ e. ⊎_elim (λ w. absurd (true≢false (sym (ap is_accepted v) ∙ ap is_accepted w))) (λ w. w.2)
-          (faces-refused (record { number = 10; index = 0 }) e).0,
-      λ o. lists-short ((accepted-is s).0 v) o lists,
+      (
+        λ e. ⊎_elim (λ w. absurd (true≢false (sym (ap is_accepted v) ∙ ap is_accepted w.1))) (λ w. w.2)
+            (faces-refused NoRoom e).0,
+        λ o. lists-short ((accepted-is s).0 v) o lists,
+      ),
+      refl,
     )
 
     pub faces-ends : (list_refusal a ≡ no_refusal) ⊎ (Why (list_refusal a) × untouched)
     faces-ends = go a refl
       where
         go : (b : FaceList) → a ≡ b → (list_refusal b ≡ no_refusal) ⊎ (Why (list_refusal b) × untouched)
-        go (Listed m k) e = inl refl
-        go (Refused r) e = inr (faces-refused r e)
+        go (Ok c) e = inl refl
+        go (Err r) e = inr (faces-refused r e)
 
-    pub faces-room : verdict s ≡ verdict.Accepted → record_count s ≤ length labels → record_count s ≤ length cycles
-        → (m : ℕ) × (k : ℕ) × (a ≡ Listed m k)
+    pub faces-room : verdict s ≡ Ok tt → record_count s ≤ length labels → record_count s ≤ length cycles
+        → (counts : FaceCounts) × (a ≡ Ok counts)
     faces-room v l c = go a refl
       where
         halved : 2 * cycle_count s ≤ record_count s
@@ -101,10 +109,10 @@ module _ (s : List ℤ) (labels cycles labels' cycles' : List ℕ) where
         long (inl h) = omega (arith, h, l)
         long (inr h) = omega (arith, h, c, halved)
 
-        go : (b : FaceList) → a ≡ b → (m : ℕ) × (k : ℕ) × (a ≡ Listed m k)
-        go (Listed m k) e = (m, k, e)
-        go (Refused r) e =
-            absurd (⊎_elim (λ w. true≢false (sym (ap is_accepted v) ∙ ap is_accepted w)) (λ w. long w.2)
+        go : (b : FaceList) → a ≡ b → (counts : FaceCounts) × (a ≡ Ok counts)
+        go (Ok counts) e = (counts, e)
+        go (Err r) e =
+            absurd (⊎_elim (λ w. true≢false (sym (ap is_accepted v) ∙ ap is_accepted w.1)) (λ w. long w.2)
             (faces-refused r e).0)
 
   -- ---- of an answer that is no refusal
@@ -118,7 +126,14 @@ module _ (s : List ℤ) (labels cycles labels' cycles' : List ℕ) where
   abbrev face : ℕ → ℕ
   face c = get_or cycles' (2 * c + 1) 0
 
-  module _ (m k : ℕ) (lists : Lists s labels cycles labels' cycles' (Listed m k)) where
+  module _ (counts : FaceCounts) (lists : Lists s labels cycles labels' cycles' (Ok counts)) where
+    -- how many cycles and how many faces
+    abbrev m : ℕ
+    m = counts.cycles
+
+    abbrev k : ℕ
+    k = counts.faces
+
     told : Told s labels cycles labels' cycles' m k
     told = lists-told lists
 

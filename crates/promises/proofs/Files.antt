@@ -11,6 +11,7 @@
 --     number-ends       so it is of one number, at whatever place of whatever bytes
 --     largest-number    no number is above 2,097,151, which is 2 ^ 21 - 1
 --     square-file       document 01's file of the square holds the square
+--     NumberRefused a r k i, FileRefused t r k i    it is refused by r, which is k at the place i
 --     forms             the forms of one number, and the empty chart's file
 -- That two outcomes coincide: Outcomes.antt. Assumes nothing.
 use mathlib.Core.Path.{◌≡◌, refl, ap, ◌∙◌}
@@ -24,15 +25,18 @@ use lib.IntN.{ℤ}
 use lib.ListN.{length, get_or, take, drop}
 use Rattle.counts.specs.Count.{all, any, first_index}
 use Rattle.record.specs.Records.{width}
+use Rattle.std.specs.Prelude.{Ok, Err}
 use Rattle.chart.specs.declared.Refusal.{Refusal}
 use Rattle.chart.specs.Verdicts.{limit, no_refusal}
-use Rattle.file.specs.declared.Answer.{Answer}
-use Rattle.file.specs.declared.Answer.TheVariants.{Records, Refused}
-use Rattle.number.specs.declared.Number.TheVariants.{Value}
-use Rattle.number.specs.Numbers.{refused, last_of, value_of, number_in, number_at, number_refusal, signed}
-use Rattle.file.specs.Fields.{coordinate, field}
-use Rattle.file.specs.Files.{taken, refused_by, fields, file_of}
-use Rattle.file.specs.Answers.{read_refusal, is_file_refusal, Reads}
+use Rattle.number.specs.declared.NumberRefusal.{NumberRefusal}
+use Rattle.number.specs.declared.NumberRefusal.TheVariants.{Ends, Overlong}
+use Rattle.number.specs.Numbers as number
+use Rattle.number.specs.Numbers.{Number, got, last_of, value_of, number_in, number_at, number_refusal, signed}
+use Rattle.file.specs.declared.FileRefusal.{FileRefusal}
+use Rattle.file.specs.declared.FileRefusal.TheVariants.{NoNumber, NoRoom}
+use Rattle.file.specs.Fields.{coordinate_for, number_for, field}
+use Rattle.file.specs.Files.{Taken, taken, refused, fields, file_of}
+use Rattle.file.specs.Answers.{Answer, told, read_refusal, is_file_refusal, Reads}
 use Rattle.file.proofs.AnswerLaws.{reads-took, reads-refused, reads-untouched}
 use Rattle.file.proofs.RefusalLaws.{file_of-told, file_of-end}
 use Rattle.number.proofs.SizeLaws.{number_in-size}
@@ -40,24 +44,24 @@ use Rattle.file.proofs.LengthLaws.{longest-bytes}
 use Rattle.file.proofs.ManyLaws.{many_numbers}
 use Rattle.file.proofs.LongestLaws.{longest-reached}
 use Rattle.file.proofs.BufferLaws.{buffered}
-use Rattle.promises.specs.Bench.{square, square_file}
+use Rattle.promises.specs.Bench.{square, square_file, as_told}
 
 module _ (s : List ℕ) (lent out : List ℤ) (a : Answer) (reads : Reads s lent out a) where
-  pub read-refused : (r : Refusal) → a ≡ Refused r
-      → (is_file_refusal r.number ≡ true) × (r.index ≤ length s) × (out ≡ lent)
+  pub read-refused : (r : FileRefusal) → a ≡ Err r
+      → (is_file_refusal (told r).number ≡ true) × ((told r).index ≤ length s) × (out ≡ lent)
   read-refused r e =
-      let told = file_of-told s (length lent) (reads-refused s lent out reads e) in
-      (told.number, told.place.within, reads-untouched s lent out reads e)
+      let q = file_of-told s (length lent) (reads-refused s lent out reads e) in
+      (q.number, q.place.within, reads-untouched s lent out reads e)
 
   pub read-ends : (read_refusal a ≡ no_refusal) ⊎ ((is_file_refusal (read_refusal a).number ≡ true) × (out ≡ lent))
   read-ends = go a refl
     where
       go : (b : Answer) → a ≡ b
           → (read_refusal b ≡ no_refusal) ⊎ ((is_file_refusal (read_refusal b).number ≡ true) × (out ≡ lent))
-      go (Records n) e = inl refl
-      go (Refused r) e = let told = read-refused r e in inr (told.0, told.2)
+      go (Ok n) e = inl refl
+      go (Err r) e = let q = read-refused r e in inr (q.0, q.2)
 
-  pub read-records : (n : ℕ) → a ≡ Records n
+  pub read-records : (n : ℕ) → a ≡ Ok n
       → (file_of s (length lent) ≡ taken (take (width * n) out) (length s))
       × (drop (width * n) out ≡ drop (width * n) lent) × (n ≤ limit)
   read-records n e =
@@ -87,40 +91,48 @@ number-ends s at =
     go (ltb 2 k) (leb (length bs) k) (ltb 0 k && eqb (get_or bs k 0) 0) (value_of (take (k + 1) bs)) (at + (k + 1))
   where
     go : (a b c : Bool) (n next : ℕ) → NumberEnds at
-        (number_refusal (cond a (refused 32 at) (cond b (refused 31 at) (cond c (refused 32 at) (Value n next)))))
+        (number_refusal
+        (cond a (Err (Overlong at)) (cond b (Err (Ends at)) (cond c (Err (Overlong at)) (got n next)))))
     go true b c n next = inr (refl, refl)
     go false true c n next = inr (refl, refl)
     go false false true n next = inr (refl, refl)
     go false false false n next = inl refl
 
-pub largest-number : (s : List ℕ) (at n next : ℕ) → number_at s at ≡ Value n next → n ≤ 2097151
+pub largest-number : (s : List ℕ) (at n next : ℕ) → number_at s at ≡ Ok (n, next) → n ≤ 2097151
 largest-number s at n next e = omega (arith, (number_in-size (drop at s) at n next e).small)
 
 pub square-file : file_of square_file 40 ≡ taken square 41
-unfolding file_of fields field coordinate signed number_in value_of first_index
+unfolding file_of fields field number_for coordinate_for signed number_in value_of first_index
 square-file = refl
 
+-- a number that is refused by r, which is k at the place i; and a file
+abbrev pub NumberRefused : Number → NumberRefusal → ℕ → ℕ → Type 0
+NumberRefused a r k i = (a ≡ Err r) × (number.told r ≡ as_told k i)
+
+abbrev pub FileRefused : Taken → FileRefusal → ℕ → ℕ → Type 0
+FileRefused t r k i = (t ≡ refused r) × (told r ≡ as_told k i)
+
 pub record Forms : Type 0 where
-  pub third-high : number_at (128 ∷ 128 ∷ 128 ∷ []) 0 ≡ refused 32 0
-  pub two-high : number_at (128 ∷ 128 ∷ []) 0 ≡ refused 31 0
-  pub zero-after-one : number_at (128 ∷ 0 ∷ []) 0 ≡ refused 32 0
-  pub zero-after-two : number_at (128 ∷ 128 ∷ 0 ∷ []) 0 ≡ refused 32 0
-  pub largest : number_at (255 ∷ 255 ∷ 127 ∷ []) 0 ≡ Value 2097151 3
-  pub no-file : file_of [] 0 ≡ refused_by 31 0
-  pub count-alone : file_of (1 ∷ []) 5 ≡ refused_by 31 1
-  pub count-first : file_of (1 ∷ []) 4 ≡ refused_by 36 0
+  pub third-high : NumberRefused (number_at (128 ∷ 128 ∷ 128 ∷ []) 0) (Overlong 0) 32 0
+  pub two-high : NumberRefused (number_at (128 ∷ 128 ∷ []) 0) (Ends 0) 31 0
+  pub zero-after-one : NumberRefused (number_at (128 ∷ 0 ∷ []) 0) (Overlong 0) 32 0
+  pub zero-after-two : NumberRefused (number_at (128 ∷ 128 ∷ 0 ∷ []) 0) (Overlong 0) 32 0
+  pub largest : number_at (255 ∷ 255 ∷ 127 ∷ []) 0 ≡ Ok (2097151, 3)
+  pub no-file : FileRefused (file_of [] 0) (NoNumber (Ends 0)) 31 0
+  pub count-alone : FileRefused (file_of (1 ∷ []) 5) (NoNumber (Ends 1)) 31 1
+  pub count-first : FileRefused (file_of (1 ∷ []) 4) NoRoom 36 0
   pub empty-chart : file_of (0 ∷ []) 0 ≡ taken [] 1
 
 pub forms : Forms
-unfolding file_of fields field coordinate signed number_in value_of first_index
+unfolding file_of fields field number_for coordinate_for signed number_in value_of first_index
 forms = record {
-  third-high = refl;
-  two-high = refl;
-  zero-after-one = refl;
-  zero-after-two = refl;
+  third-high = (refl, refl);
+  two-high = (refl, refl);
+  zero-after-one = (refl, refl);
+  zero-after-two = (refl, refl);
   largest = refl;
-  no-file = refl;
-  count-alone = refl;
-  count-first = refl;
+  no-file = (refl, refl);
+  count-alone = (refl, refl);
+  count-first = (refl, refl);
   empty-chart = refl;
 }

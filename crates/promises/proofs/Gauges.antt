@@ -26,10 +26,9 @@ use Rattle.counts.specs.Count.{any, listed}
 use Rattle.grid.specs.Coordinates.{on_grid}
 use Rattle.gauge.specs.declared.Card.{Card}
 use Rattle.gauge.specs.declared.Card.TheVariants.{Spring, Bridge}
-use Rattle.gauge.specs.declared.Gauged.{Gauged}
 use Rattle.gauge.specs.Values.{size, is_multiple, has_minus, units, Exactly}
 use Rattle.gauge.specs.Cards.{is_factor, is_from, is_pin, is_zero, sound}
-use Rattle.gauge.specs.Readings.{pressure, row, at_pin, refusal, Gauges}
+use Rattle.gauge.specs.Readings.{pressure, row, at_pin, refusal, Gauged, refusal_number, handed, Gauges}
 use Rattle.gauge.proofs.ExactLaws.{exactly-one, zero-exactly}
 use Rattle.gauge.proofs.RuleLaws as rules
 
@@ -99,22 +98,22 @@ module _ (c : Card) (n : ℤ) where
 abbrev kept : ℕ → ℤ → ℤ
 kept m z = cond (eqb m 0) z (pos 0)
 
-module _ {c : Card} {n : ℤ} {g : Gauged} (h : Gauges c n g) where
-  pub reading-exact : g.refusal ≡ 0
-      → Exactly g.reading.pressure (pressure c n)
-      × (g.reading.row ≡ row (pressure c n)) × (on_grid g.reading.row ≡ true)
+module _ {c : Card} {n : ℤ} (g : Gauged) (h : Gauges c n g) where
+  pub reading-exact : refusal_number g ≡ 0
+      → Exactly (handed g).pressure (pressure c n)
+      × ((handed g).row ≡ row (pressure c n)) × (on_grid (handed g).row ≡ true)
   reading-exact e =
       let none : refusal c n ≡ 0 = sym h.number ∙ e in
-      let placed : g.reading.row ≡ row (pressure c n) = h.place ∙ ap (λ m. kept m (row (pressure c n))) none in (
-        subst (λ m. Exactly g.reading.pressure (kept m (pressure c n))) none h.exact,
+      let placed : (handed g).row ≡ row (pressure c n) = h.place ∙ ap (λ m. kept m (row (pressure c n))) none in (
+        subst (λ m. Exactly (handed g).pressure (kept m (pressure c n))) none h.exact,
         placed,
         ap on_grid placed ∙ ((read-0 c n).0 none).2,
       )
 
-  pub reading-refused : g.refusal ≢ 0 → (g.reading.pressure ≡ fin false 0 (pos 0)) × (g.reading.row ≡ pos 0)
+  pub reading-refused : refusal_number g ≢ 0 → ((handed g).pressure ≡ fin false 0 (pos 0)) × ((handed g).row ≡ pos 0)
   reading-refused e =
       let some : eqb (refusal c n) 0 ≡ false = ne_eqb (refusal c n) 0 (λ z. e (h.number ∙ z)) in
-      let float = subst (λ b. Exactly g.reading.pressure (cond b (pressure c n) (pos 0))) some h.exact in
+      let float = subst (λ b. Exactly (handed g).pressure (cond b (pressure c n) (pos 0))) some h.exact in
       (exactly-one float zero-exactly, h.place ∙ ap (λ b. cond b (row (pressure c n)) (pos 0)) some)
 
 -- ---- floats that are no numbers, and the negative zero

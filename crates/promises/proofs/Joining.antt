@@ -21,8 +21,7 @@ use Rattle.plane.specs.declared.Point.{Point}
 use Rattle.record.specs.declared.Record.{Record}
 use Rattle.record.specs.Records.{width, records, unmarked, marked}
 use Rattle.segment.specs.Segments.{segment}
-use Rattle.chart.specs.declared.Refusal.{Refusal}
-use Rattle.chart.specs.declared.Verdict.TheVariants.{Accepted}
+use Rattle.std.specs.Prelude.{Ok, Err}
 use Rattle.chart.specs.Verdicts.{limit, no_refusal, verdict}
 use Rattle.chart.proofs.RegionLaws.{accepted-is}
 use Rattle.region.specs.Boundaries.{held}
@@ -35,28 +34,27 @@ use Rattle.combined.proofs.SoundLaws.{result-region, result-mark}
 use Rattle.combined.proofs.PlaceLaws.{result-place}
 use Rattle.sides.specs.declared.Op.{Op}
 use Rattle.sides.specs.declared.Op.TheVariants.{Union, Intersection, Difference}
-use Rattle.join.specs.declared.Joined.{Joined}
-use Rattle.join.specs.declared.Joined.TheVariants.{Records, Refused}
-use Rattle.join.specs.Joinings.{result_of, join_refusal, chart_named, Joins}
+use Rattle.join.specs.declared.JoinRefusal.{JoinRefusal}
+use Rattle.join.specs.Joinings.{Joined, result_of, told_joining, named, join_refusal, chart_named, Joins}
 use Rattle.join.proofs.OutcomeLaws.{Told, outcome-told, joins-combined, joins-refused, joins-untouched}
 use Rattle.promises.proofs.Promises.{combined-charts}
 
 -- ---- two charts, by operation
 
-module _ (a b : List ℤ) (v : verdict a ≡ Accepted) (w : verdict b ≡ Accepted) (lent out : List ℤ) (n : ℕ) (p : Point)
+module _ (a b : List ℤ) (v : verdict a ≡ Ok tt) (w : verdict b ≡ Ok tt) (lent out : List ℤ) (n : ℕ) (p : Point)
     (off_a : held (records a) p ≡ false) (off_b : held (records b) p ≡ false) where
   -- what is written, at p
   abbrev says : Bool
   says = is_inside (placed (take (width * n) out) p)
 
-  pub union-inside : Joins Union a b lent out (Records n) → says ≡ is_inside (placed a p) || is_inside (placed b p)
+  pub union-inside : Joins Union a b lent out (Ok n) → says ≡ is_inside (placed a p) || is_inside (placed b p)
   union-inside h = (combined-charts Union a b v w lent out n h).1 p off_a off_b
 
-  pub intersection-inside : Joins Intersection a b lent out (Records n)
+  pub intersection-inside : Joins Intersection a b lent out (Ok n)
       → says ≡ is_inside (placed a p) && is_inside (placed b p)
   intersection-inside h = (combined-charts Intersection a b v w lent out n h).1 p off_a off_b
 
-  pub difference-inside : Joins Difference a b lent out (Records n)
+  pub difference-inside : Joins Difference a b lent out (Ok n)
       → says ≡ is_inside (placed a p) && not (is_inside (placed b p))
   difference-inside h = (combined-charts Difference a b v w lent out n h).1 p off_a off_b
 
@@ -69,9 +67,9 @@ module _ (ss : List (List ℤ)) (together : Together ss) (f : List Bool → Bool
   given = result f (map records ss)
 
   pub any-charts : length given ≤ limit
-      → (verdict (numbers given) ≡ Accepted)
+      → (verdict (numbers given) ≡ Ok tt)
       × ((p : Point) → ((s : List ℤ) → s ∈ ss → held (records s) p ≡ false)
-      → placed (numbers given) p ≡ cond (f (map (λ s. is_inside (placed s p)) ss)) Inside Outside)
+      → placed (numbers given) p ≡ Ok (cond (f (map (λ s. is_inside (placed s p)) ss)) Inside Outside))
   any-charts few = (
     (accepted-is (numbers given)).1 (result-region together f none few),
     λ p off. result-place together f none p off few,
@@ -84,9 +82,9 @@ module _ (ss : List (List ℤ)) (together : Together ss) (f : List Bool → Bool
 -- ---- two arrays
 
 module _ (op : Op) (a b lent out : List ℤ) (j : Joined) (joins : Joins op a b lent out j) where
-  pub join-refused : (c : ℕ) (r : Refusal) → j ≡ Refused c r → Told a b c r × (out ≡ lent)
-  join-refused c r e = (
-    outcome-told op a b (length lent) c r (joins-refused op a b lent out joins e),
+  pub join-refused : (r : JoinRefusal) → j ≡ Err r → Told a b (named r) (told_joining r) × (out ≡ lent)
+  join-refused r e = (
+    outcome-told op a b (length lent) r (joins-refused op a b lent out joins e),
     joins-untouched op a b lent out joins e,
   )
 
@@ -95,10 +93,10 @@ module _ (op : Op) (a b lent out : List ℤ) (j : Joined) (joins : Joins op a b 
     where
       go : (k : Joined) → j ≡ k
           → (join_refusal k ≡ no_refusal) ⊎ (Told a b (chart_named k) (join_refusal k) × (out ≡ lent))
-      go (Records n) e = inl refl
-      go (Refused c r) e = inr (join-refused c r e)
+      go (Ok n) e = inl refl
+      go (Err r) e = inr (join-refused r e)
 
-  pub join-records : (n : ℕ) → j ≡ Records n
+  pub join-records : (n : ℕ) → j ≡ Ok n
       → (n ≡ length (result_of op a b)) × (n ≤ limit) × (take (width * n) out ≡ numbers (result_of op a b))
       × (drop (width * n) out ≡ drop (width * n) lent)
   join-records n e =

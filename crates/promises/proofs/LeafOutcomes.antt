@@ -1,13 +1,10 @@
 -- The public functions that the questions rest on: nothing is asked of a caller, and any two outcomes that one promise
 -- allows coincide.
 -- Assumes nothing.
-use mathlib.Core.Path.{◌≡◌, sym, ap, ap₂, ◌∙◌}
-use mathlib.Core.List.{List}
-use Prim.Native.Nat.{ℕ}
-use lib.IntN.{ℤ}
-use Rattle.chart.specs.declared.Verdict.{Verdict}
-use Rattle.cycles.specs.declared.Cycles.{Cycles}
-use Rattle.cycles.specs.Circles.{Circled}
+use mathlib.Core.Path.{◌≡◌, refl, sym, ap, ◌∙◌}
+use Rattle.std.specs.Prelude.{Result, Ok, Err}
+use Rattle.std.specs.Result.{OkIff}
+use Rattle.grid.specs.declared.OffGrid.{OffGrid}
 use Rattle.grid.proofs.Coord.new.Kinds as new-kinds
 use Rattle.grid.proofs.Coord.new.Reads as new
 use Rattle.grid.proofs.Coord.least.Kinds as least-kinds
@@ -20,6 +17,8 @@ use Rattle.grid.proofs.Coord.count.Kinds as count-kinds
 use Rattle.grid.proofs.Coord.count.Reads as count
 use Rattle.grid.proofs.Coord.at_count.Kinds as at-count-kinds
 use Rattle.grid.proofs.Coord.at_count.Reads as at-count
+use Rattle.grid.proofs.CoordTryFromI64.try_from.Kinds as try-from-kinds
+use Rattle.grid.proofs.CoordTryFromI64.try_from.Reads as try-from
 use Rattle.grid.proofs.count_of.Kinds as count-of-kinds
 use Rattle.grid.proofs.count_of.Reads as count-of
 use Rattle.grid.proofs.number_at.Kinds as number-at-kinds
@@ -42,6 +41,8 @@ use Rattle.points.proofs.is_straight.Kinds as is-straight-kinds
 use Rattle.points.proofs.is_straight.Reads as is-straight
 use Rattle.record.proofs.record_at.Kinds as record-at-kinds
 use Rattle.record.proofs.record_at.Reads as record-at
+use Rattle.record.proofs.record_count.Kinds as record-count-kinds
+use Rattle.record.proofs.record_count.Reads as record-count
 use Rattle.record.proofs.is_left.Kinds as is-left-kinds
 use Rattle.record.proofs.is_left.Reads as is-left
 use Rattle.record.proofs.other_half.Kinds as other-half-kinds
@@ -54,6 +55,8 @@ use Rattle.parts.proofs.first_elsewhere.Kinds as first-elsewhere-kinds
 use Rattle.parts.proofs.first_elsewhere.Reads as first-elsewhere
 use Rattle.segment.proofs.segment_of.Kinds as segment-of-kinds
 use Rattle.segment.proofs.segment_of.Reads as segment-of
+use Rattle.segment.proofs.segment_of_left.Kinds as segment-of-left-kinds
+use Rattle.segment.proofs.segment_of_left.Reads as segment-of-left
 use Rattle.segment.proofs.is_record.Kinds as is-record-kinds
 use Rattle.segment.proofs.is_record.Reads as is-record
 use Rattle.segment.proofs.is_segment.Kinds as is-segment-kinds
@@ -84,6 +87,14 @@ use Rattle.among.proofs.counted_mark.Kinds as counted-mark-kinds
 use Rattle.among.proofs.counted_mark.Reads as counted-mark
 use Rattle.among.proofs.place_of.Kinds as place-of-kinds
 use Rattle.among.proofs.place_of.Reads as place-of
+use Rattle.chart.proofs.RefusalFromChartRefusal.from.Kinds as from-chart-refusal-kinds
+use Rattle.chart.proofs.RefusalFromChartRefusal.from.Reads as from-chart-refusal
+use Rattle.chart.proofs.accepted.Chart.new.Kinds as chart-new-kinds
+use Rattle.chart.proofs.accepted.Chart.new.Reads as chart-new
+use Rattle.chart.proofs.accepted.Chart.numbers.Kinds as numbers-kinds
+use Rattle.chart.proofs.accepted.Chart.numbers.Reads as numbers
+use Rattle.chart.proofs.accepted.Chart.record_count.Kinds as chart-record-count-kinds
+use Rattle.chart.proofs.accepted.Chart.record_count.Reads as chart-record-count
 use Rattle.question.proofs.is_below.Kinds as is-below-kinds
 use Rattle.question.proofs.is_below.Reads as is-below
 use Rattle.question.proofs.is_edge.Kinds as is-edge-kinds
@@ -94,13 +105,37 @@ use Rattle.nearest.proofs.highest_below.Kinds as highest-below-kinds
 use Rattle.nearest.proofs.highest_below.Reads as highest-below
 use Rattle.cycles.proofs.cycles_of.Kinds as cycles-of-kinds
 use Rattle.cycles.proofs.cycles_of.Reads as cycles-of
+use Rattle.faces.proofs.FaceRefusalFromChartRefusal.from.Kinds as face-from-chart-refusal-kinds
+use Rattle.faces.proofs.FaceRefusalFromChartRefusal.from.Reads as face-from-chart-refusal
+use Rattle.faces.proofs.RefusalFromFaceRefusal.from.Kinds as from-face-refusal-kinds
+use Rattle.faces.proofs.RefusalFromFaceRefusal.from.Reads as from-face-refusal
 use Rattle.sides.proofs.is_kept_first.Kinds as is-kept-first-kinds
 use Rattle.sides.proofs.is_kept_first.Reads as is-kept-first
 use Rattle.sides.proofs.is_kept_second.Kinds as is-kept-second-kinds
 use Rattle.sides.proofs.is_kept_second.Reads as is-kept-second
 use Rattle.sides.proofs.marked_afresh.Kinds as marked-afresh-kinds
 use Rattle.sides.proofs.marked_afresh.Reads as marked-afresh
-use Rattle.promises.proofs.Settled.{Settled}
+use Rattle.sides.proofs.Pair.of.Kinds as of-kinds
+use Rattle.sides.proofs.Pair.of.Reads as of
+use Rattle.sides.proofs.Pair.is_kept.Kinds as is-kept-kinds
+use Rattle.sides.proofs.Pair.is_kept.Reads as is-kept
+use Rattle.sides.proofs.Pair.marked_afresh.Kinds as pair-marked-afresh-kinds
+use Rattle.sides.proofs.Pair.marked_afresh.Reads as pair-marked-afresh
+use Rattle.join.proofs.JoinRefusal.chart.Kinds as chart-kinds
+use Rattle.join.proofs.JoinRefusal.chart.Reads as chart
+use Rattle.join.proofs.RefusalFromJoinRefusal.from.Kinds as from-join-refusal-kinds
+use Rattle.join.proofs.RefusalFromJoinRefusal.from.Reads as from-join-refusal
+use Rattle.gauge.proofs.GaugeRefusal.number.Kinds as number-kinds
+use Rattle.gauge.proofs.GaugeRefusal.number.Reads as number
+use Rattle.gauge.proofs.handed.Kinds as handed-kinds
+use Rattle.gauge.proofs.handed.Reads as handed
+use Rattle.number.proofs.RefusalFromNumberRefusal.from.Kinds as from-number-refusal-kinds
+use Rattle.number.proofs.RefusalFromNumberRefusal.from.Reads as from-number-refusal
+use Rattle.file.proofs.FileRefusalFromNumberRefusal.from.Kinds as file-from-number-refusal-kinds
+use Rattle.file.proofs.FileRefusalFromNumberRefusal.from.Reads as file-from-number-refusal
+use Rattle.file.proofs.RefusalFromFileRefusal.from.Kinds as from-file-refusal-kinds
+use Rattle.file.proofs.RefusalFromFileRefusal.from.Reads as from-file-refusal
+use Rattle.promises.proofs.Settled.{Settled, SettledNumbers}
 
 -- ---- grid
 
@@ -115,6 +150,16 @@ same-greatest = ((λ κs a. tt), (λ κs a v w s t h k. h ∙ sym k))
 
 pub same-of-wide : Settled 0 of-wide-kinds.ps of-wide-kinds.r of-wide.Pre of-wide.Post
 same-of-wide = ((λ κs a. tt), (λ κs a v w s t h k. h ∙ sym k))
+
+-- a wider number is a coordinate or it is none, for one reason
+ok-one : {A : Type 0} (P : Type 0) (x : A) (v w : Result A OffGrid) → OkIff v P x → OkIff w P x → v ≡ w
+ok-one P x (Ok a) (Ok b) h k = ap Ok (h.1 ∙ sym k.1)
+ok-one P x (Ok a) (Err f) h k = absurd (k h.0)
+ok-one P x (Err e) (Ok b) h k = absurd (h k.0)
+ok-one P x (Err e) (Err f) h k = refl
+
+pub same-try-from : Settled 0 try-from-kinds.ps try-from-kinds.r try-from.Pre try-from.Post
+same-try-from = ((λ κs a. tt), (λ κs a v w s t h k. ok-one _ _ v w h k))
 
 pub same-count : Settled 0 count-kinds.ps count-kinds.r count.Pre count.Post
 same-count = ((λ κs a. tt), (λ κs a v w s t h k. h ∙ sym k))
@@ -159,6 +204,9 @@ same-is-straight = ((λ κs a. tt), (λ κs a v w s t h k. h ∙ sym k))
 pub same-record-at : Settled 1 record-at-kinds.ps record-at-kinds.r record-at.Pre record-at.Post
 same-record-at = ((λ κs a. tt), (λ κs a v w s t h k. h ∙ sym k))
 
+pub same-record-count : Settled 1 record-count-kinds.ps record-count-kinds.r record-count.Pre record-count.Post
+same-record-count = ((λ κs a. tt), (λ κs a v w s t h k. h ∙ sym k))
+
 pub same-is-left : Settled 0 is-left-kinds.ps is-left-kinds.r is-left.Pre is-left.Post
 same-is-left = ((λ κs a. tt), (λ κs a v w s t h k. h ∙ sym k))
 
@@ -181,6 +229,10 @@ same-first-elsewhere = ((λ κs a. tt), (λ κs a v w s t h k. h ∙ sym k))
 
 pub same-segment-of : Settled 0 segment-of-kinds.ps segment-of-kinds.r segment-of.Pre segment-of.Post
 same-segment-of = ((λ κs a. tt), (λ κs a v w s t h k. h ∙ sym k))
+
+pub same-segment-of-left : Settled 0 segment-of-left-kinds.ps segment-of-left-kinds.r segment-of-left.Pre
+    segment-of-left.Post
+same-segment-of-left = ((λ κs a. tt), (λ κs a v w s t h k. h ∙ sym k))
 
 pub same-is-record : Settled 0 is-record-kinds.ps is-record-kinds.r is-record.Pre is-record.Post
 same-is-record = ((λ κs a. tt), (λ κs a v w s t h k. h ∙ sym k))
@@ -231,6 +283,23 @@ same-counted-mark = ((λ κs a. tt), (λ κs a v w s t h k. h ∙ sym k))
 pub same-place-of : Settled 1 place-of-kinds.ps place-of-kinds.r place-of.Pre place-of.Post
 same-place-of = ((λ κs a. tt), (λ κs a v w s t h k. h.is ∙ sym k.is))
 
+-- ---- chart
+
+pub same-from-chart-refusal : Settled 0 from-chart-refusal-kinds.ps from-chart-refusal-kinds.r
+    from-chart-refusal.Pre from-chart-refusal.Post
+same-from-chart-refusal = ((λ κs a. tt), (λ κs a v w s t h k. h ∙ sym k))
+
+pub same-chart-new : Settled 1 chart-new-kinds.ps chart-new-kinds.r chart-new.Pre chart-new.Post
+same-chart-new = ((λ κs a. tt), (λ κs a v w s t h k. h ∙ sym k))
+
+pub same-numbers : SettledNumbers 2 numbers-kinds.ps numbers-kinds.r
+    numbers.Pre numbers.Post
+same-numbers = ((λ κs a. tt), (λ κs a p q s t h k. h.0 ∙ sym k.0))
+
+pub same-chart-record-count : Settled 2 chart-record-count-kinds.ps chart-record-count-kinds.r
+    chart-record-count.Pre chart-record-count.Post
+same-chart-record-count = ((λ κs a. tt), (λ κs a v w s t h k. h.0 ∙ sym k.0))
+
 -- ---- question
 
 pub same-is-below : Settled 0 is-below-kinds.ps is-below-kinds.r is-below.Pre is-below.Post
@@ -249,17 +318,18 @@ same-highest-below = ((λ κs a. tt), (λ κs a v w s t h k. h.is ∙ sym k.is))
 
 -- ---- cycles
 
--- the verdict, the starts and the first records are all that is answered
-circled-one : (s : List ℤ) (c d : Cycles) → Circled s c → Circled s d → c ≡ d
-circled-one s c d h k =
-    ap₂ (λ v l. made v l c.firsts) (h.judged ∙ sym k.judged) (h.starts ∙ sym k.starts)
-    ∙ ap (made d.verdict d.starts) (h.firsts ∙ sym k.firsts)
-  where
-    made : Verdict → List ℕ → List ℕ → Cycles
-    made v starts firsts = record { verdict = v; starts = starts; firsts = firsts }
-
 pub same-cycles-of : Settled 1 cycles-of-kinds.ps cycles-of-kinds.r cycles-of.Pre cycles-of.Post
-same-cycles-of = ((λ κs a. tt), (λ κs a v w s t h k. circled-one _ v w h k))
+same-cycles-of = ((λ κs a. tt), (λ κs a v w s t h k. h ∙ sym k))
+
+-- ---- faces
+
+pub same-from-face-refusal : Settled 0 from-face-refusal-kinds.ps from-face-refusal-kinds.r
+    from-face-refusal.Pre from-face-refusal.Post
+same-from-face-refusal = ((λ κs a. tt), (λ κs a v w s t h k. h ∙ sym k))
+
+pub same-face-from-chart-refusal : Settled 0 face-from-chart-refusal-kinds.ps face-from-chart-refusal-kinds.r
+    face-from-chart-refusal.Pre face-from-chart-refusal.Post
+same-face-from-chart-refusal = ((λ κs a. tt), (λ κs a v w s t h k. h ∙ sym k))
 
 -- ---- sides
 
@@ -272,3 +342,46 @@ same-is-kept-second = ((λ κs a. tt), (λ κs a v w s t h k. h ∙ sym k))
 
 pub same-marked-afresh : Settled 2 marked-afresh-kinds.ps marked-afresh-kinds.r marked-afresh.Pre marked-afresh.Post
 same-marked-afresh = ((λ κs a. tt), (λ κs a v w s t h k. h ∙ sym k))
+
+pub same-of : SettledNumbers 1 of-kinds.ps of-kinds.r of.Pre of.Post
+same-of = ((λ κs a. tt), (λ κs a p q s t h k. h ∙ sym k))
+
+pub same-is-kept : Settled 1 is-kept-kinds.ps is-kept-kinds.r is-kept.Pre is-kept.Post
+same-is-kept = ((λ κs a. tt), (λ κs a v w s t h k. h ∙ sym k))
+
+pub same-pair-marked-afresh : Settled 1 pair-marked-afresh-kinds.ps pair-marked-afresh-kinds.r
+    pair-marked-afresh.Pre pair-marked-afresh.Post
+same-pair-marked-afresh = ((λ κs a. tt), (λ κs a v w s t h k. h ∙ sym k))
+
+-- ---- join
+
+pub same-chart : Settled 0 chart-kinds.ps chart-kinds.r
+    chart.Pre chart.Post
+same-chart = ((λ κs a. tt), (λ κs a v w s t h k. h ∙ sym k))
+
+pub same-from-join-refusal : Settled 0 from-join-refusal-kinds.ps from-join-refusal-kinds.r
+    from-join-refusal.Pre from-join-refusal.Post
+same-from-join-refusal = ((λ κs a. tt), (λ κs a v w s t h k. h ∙ sym k))
+
+-- ---- gauge
+
+pub same-number : Settled 0 number-kinds.ps number-kinds.r
+    number.Pre number.Post
+same-number = ((λ κs a. tt), (λ κs a v w s t h k. h ∙ sym k))
+
+pub same-handed : Settled 0 handed-kinds.ps handed-kinds.r handed.Pre handed.Post
+same-handed = ((λ κs a. tt), (λ κs a v w s t h k. h ∙ sym k))
+
+-- ---- file
+
+pub same-from-number-refusal : Settled 0 from-number-refusal-kinds.ps from-number-refusal-kinds.r
+    from-number-refusal.Pre from-number-refusal.Post
+same-from-number-refusal = ((λ κs a. tt), (λ κs a v w s t h k. h ∙ sym k))
+
+pub same-file-from-number-refusal : Settled 0 file-from-number-refusal-kinds.ps file-from-number-refusal-kinds.r
+    file-from-number-refusal.Pre file-from-number-refusal.Post
+same-file-from-number-refusal = ((λ κs a. tt), (λ κs a v w s t h k. h ∙ sym k))
+
+pub same-from-file-refusal : Settled 0 from-file-refusal-kinds.ps from-file-refusal-kinds.r
+    from-file-refusal.Pre from-file-refusal.Post
+same-from-file-refusal = ((λ κs a. tt), (λ κs a v w s t h k. h ∙ sym k))

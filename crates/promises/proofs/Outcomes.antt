@@ -21,6 +21,8 @@ use lib.IntN.{ℤ}
 use contract.Lifetimes.{Lfts}
 use denote.Triple.Clauses.{AtExit}
 use borrow.Fn.Kinds.{ended_of, Dens}
+use Rattle.std.specs.Prelude.{Result}
+use Rattle.chart.specs.declared.ChartRefusal.{ChartRefusal}
 use Rattle.question.specs.declared.Place.{Place}
 use Rattle.gauge.proofs.ReadingLaws.{gauges-one}
 use Rattle.parts.specs.declared.Span.{Span}
@@ -77,7 +79,7 @@ same-point = ((λ κs a. tt), (λ κs a v w s t h k. h ∙ sym k))
 pub same-nearest-below : Settled 1 nearest-below-kinds.ps nearest-below-kinds.r nearest-below.Pre nearest-below.Post
 same-nearest-below = ((λ κs a. tt), (λ κs a v w s t h k. h ∙ sym k))
 
-pub point-by-mark : (κs : Lfts 1) (a : Dens κs point-kinds.ps) (v w : Place)
+pub point-by-mark : (κs : Lfts 1) (a : Dens κs point-kinds.ps) (v w : Result Place ChartRefusal)
     (s t : AtExit (ended_of 1 point-kinds.ps point-kinds.r) κs)
     → point.Post κs a v s → inside-by-mark.Post κs a w t → v ≡ w
 point-by-mark κs a v w s t h k = h ∙ sym k

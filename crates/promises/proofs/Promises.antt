@@ -29,24 +29,24 @@ use lib.Dec.{eqb}
 use lib.IntN.{ℤ}
 use lib.ListN.{length, take}
 use borrow.Author.Tests.{eqb-true, eqb-false}
-use Rattle.counts.specs.Count.{◌∈◌, odd, first_index, listed}
-use Rattle.counts.specs.Scan.{first_from}
+use Rattle.counts.specs.Count.{◌∈◌, odd}
 use Rattle.counts.proofs.ListedLaws.{mem-listed}
 use Rattle.plane.specs.declared.Point.{Point}
 use Rattle.record.specs.Records.{width, record_at, record_count, records, marked}
 use Rattle.parts.specs.Parts.{Part, at_corner, run_of, Run}
 use Rattle.parts.proofs.RunLaws.{run_only, run-all}
-use Rattle.chart.specs.declared.Verdict.TheVariants.{Accepted}
-use Rattle.chart.specs.Verdicts.{limit, judged, verdict}
+use Rattle.std.specs.Prelude.{Some, None, Result, Ok}
+use Rattle.chart.specs.declared.ChartRefusal.{ChartRefusal}
+use Rattle.chart.specs.Verdicts.{limit, judged, verdict, answered}
 use Rattle.chart.specs.Regions.{Region}
 use Rattle.chart.proofs.RegionLaws.{accepted-is}
 use Rattle.chart.proofs.OnceLaws.{region-place}
 use Rattle.region.specs.Boundaries.{held, below, nearest}
 use Rattle.region.proofs.MarkLaws.{nearest-one}
 use Rattle.question.specs.declared.Place.TheVariants.{Outside, Inside, Edge}
-use Rattle.nearest.specs.declared.Nearest.TheVariants.{Nothing, At}
-use Rattle.question.specs.Places.{by_count, is_inside, place_of, place_if, placed}
-use Rattle.nearest.specs.Nearests.{nearest_of, nearest_if, nearest_below, by_mark}
+use Rattle.question.specs.declared.Place.{Place}
+use Rattle.question.specs.Places.{by_count, is_inside, place_of, placed}
+use Rattle.nearest.specs.Nearests.{nearest_of, nearest_below, by_mark}
 use Rattle.question.specs.Corners.{Corner}
 use Rattle.question.proofs.CornerLaws.{corner_of-accepted}
 use Rattle.nearest.proofs.ByMarkLaws.{by_mark-by_count}
@@ -54,7 +54,6 @@ use Rattle.combined.specs.Together.{Together}
 use Rattle.combined.proofs.SoundLaws.{result-region}
 use Rattle.combined.proofs.PlaceLaws.{result-place}
 use Rattle.sides.specs.declared.Op.{Op}
-use Rattle.join.specs.declared.Joined.TheVariants.{Records}
 use Rattle.sides.specs.Operations.{joined_by, joining}
 use Rattle.join.specs.Joinings.{result_of, Joins}
 use Rattle.join.proofs.MarkLaws.{of-both, two-together, joining-none}
@@ -62,50 +61,52 @@ use Rattle.join.proofs.OutcomeLaws.{Combined, joins-combined}
 
 -- ---- demand 2
 
-pub acceptance : (s : List ℤ) → (verdict s ≡ Accepted) ↔ Region s
+pub acceptance : (s : List ℤ) → (verdict s ≡ Ok tt) ↔ Region s
 acceptance = accepted-is
 
-pub empty-accepted : verdict [] ≡ Accepted
-unfolding verdict judged first_from first_index listed
+pub empty-accepted : verdict [] ≡ Ok tt
+unfolding verdict judged
 empty-accepted = refl
 
 pub point-counted : (s : List ℤ) (p : Point) → Region s
-    → placed s p ≡ cond (held (records s) p) Edge (cond (odd (below (records s) p)) Inside Outside)
+    → placed s p ≡ Ok (cond (held (records s) p) Edge (cond (odd (below (records s) p)) Inside Outside))
 unfolding placed place_of
-point-counted s p g = ap (λ v. place_if v (place_of (records s) p)) ((accepted-is s).1 g)
+point-counted s p g = ap (λ v. answered v (place_of (records s) p)) ((accepted-is s).1 g)
 
 -- ---- demand 3, first part
 
 -- line by line as the demand has it; the law behind it, `by_mark-by_count`, asks nothing of the point
 pub nearest-boundary :
     -- For any accepted chart
-    (s : List ℤ) → verdict s ≡ Accepted
+    (s : List ℤ) → verdict s ≡ Ok tt
     -- and any grid point off its boundary,
     → (p : Point) → held (records s) p ≡ false
     -- the side mark of the nearest boundary straight below (as document 01 picks it), or Outside where there is none,
     → by_mark s (nearest_below s p)
     -- gives the same answer as counting all boundaries below.
-    ≡ by_count (records s) p
+    ≡ Ok (by_count (records s) p)
 unfolding nearest_below
 nearest-boundary s e p off =
-    ap (λ v. by_mark s (nearest_if v (nearest_of s (record_count s) p))) e
+    ap (λ v. by_mark s (answered v (nearest_of s (record_count s) p))) e
     ∙ by_mark-by_count s (record_count s) p ((accepted-is s).0 e).sound
 
-module _ (s : List ℤ) (e : verdict s ≡ Accepted) (p : Point) (off : held (records s) p ≡ false) where
+module _ (s : List ℤ) (e : verdict s ≡ Ok tt) (p : Point) (off : held (records s) p ≡ false) where
   by-nearest : placed s p ≡ by_mark s (nearest_below s p)
   by-nearest =
-      point-counted s p ((accepted-is s).0 e) ∙ ap (λ b. cond b Edge (by_count (records s) p)) off
+      point-counted s p ((accepted-is s).0 e) ∙ ap (λ b. Ok (cond b Edge (by_count (records s) p))) off
       ∙ sym (nearest-boundary s e p off)
 
-  pub named-inside : (i : ℕ) → nearest_below s p ≡ At i → (placed s p ≡ Inside) ↔ ((record_at s i).mark ≡ marked)
+  pub named-inside : (i : ℕ) → nearest_below s p ≡ Ok (Some i)
+      → (placed s p ≡ Ok Inside) ↔ ((record_at s i).mark ≡ marked)
   named-inside i h = rw (by-nearest ∙ ap (by_mark s) h) (by-test (eqb (record_at s i).mark marked) refl)
     where
       by-test : (b : Bool) → eqb (record_at s i).mark marked ≡ b
-          → (cond b Inside Outside ≡ Inside) ↔ ((record_at s i).mark ≡ marked)
+          → (◌≡◌ {A = Result Place ChartRefusal} (Ok (cond b Inside Outside)) (Ok Inside))
+          ↔ ((record_at s i).mark ≡ marked)
       by-test true g = ((λ a. eqb-true _ _ g), (λ m. refl))
       by-test false g = ((λ a. absurd (true≢false (sym (ap is_inside a)))), (λ m. absurd (eqb-false _ _ g m)))
 
-  pub nothing-outside : nearest_below s p ≡ Nothing → placed s p ≡ Outside
+  pub nothing-outside : nearest_below s p ≡ Ok None → placed s p ≡ Ok Outside
   nothing-outside h = by-nearest ∙ ap (by_mark s) h
 
 pub nearest-single : (s : List ℤ) (p : Point) → Region s → (i j : ℕ) → i < record_count s → j < record_count s
@@ -119,11 +120,11 @@ nearest-single s p g i j l h m n = region-place g i j l h (nearest-one g.sound p
 
 pub combined-charts :
     -- When two accepted charts
-    (op : Op) (a b : List ℤ) → verdict a ≡ Accepted → verdict b ≡ Accepted
+    (op : Op) (a b : List ℤ) → verdict a ≡ Ok tt → verdict b ≡ Ok tt
     -- are combined without refusal,
-    → (lent out : List ℤ) (n : ℕ) → Joins op a b lent out (Records n)
+    → (lent out : List ℤ) (n : ℕ) → Joins op a b lent out (Ok n)
     -- the result is itself accepted,
-    → (verdict (take (width * n) out) ≡ Accepted)
+    → (verdict (take (width * n) out) ≡ Ok tt)
     -- and at every grid point on neither boundary
     × ((p : Point) → held (records a) p ≡ false → held (records b) p ≡ false
     -- it says inside exactly when
@@ -148,7 +149,7 @@ combined-charts op a b v w lent out n joins = (
     few : length (result_of op a b) ≤ limit
     few = c.met.few
 
-    by_side : (t : Bool) → is_inside (cond t Inside Outside) ≡ t
+    by_side : (t : Bool) → is_inside (Ok (cond t Inside Outside)) ≡ t
     by_side true = refl
     by_side false = refl
 

@@ -13,21 +13,15 @@ use lib.IntN.{ℤ}
 use contract.Lifetimes.{Lfts}
 use denote.Triple.Clauses.{AtExit}
 use borrow.Fn.Kinds.{ParamKind, ResultKind, ended_of, Dens, In}
-use Rattle.chart.specs.declared.Verdict.{Verdict}
-use Rattle.chart.specs.Verdicts.{refusal_of}
+use Rattle.std.specs.Prelude.{Option, Result}
+use Rattle.chart.specs.declared.ChartRefusal.{ChartRefusal}
+use Rattle.chart.specs.Verdicts.{Verdict, refusal_of}
 use Rattle.question.specs.declared.Place.{Place}
-use Rattle.question.specs.Places.{place_refusal}
-use Rattle.nearest.specs.declared.Nearest.{Nearest}
-use Rattle.nearest.specs.Nearests.{nearest_refusal}
-use Rattle.area.specs.declared.Area.{Area}
-use Rattle.area.specs.Areas.{area_refusal}
-use Rattle.faces.specs.declared.FaceList.{FaceList}
-use Rattle.faces.specs.Lists.{list_refusal}
-use Rattle.join.specs.declared.Joined.{Joined}
-use Rattle.join.specs.Joinings.{join_refusal}
-use Rattle.gauge.specs.declared.Gauged.{Gauged}
-use Rattle.file.specs.declared.Answer.{Answer}
-use Rattle.file.specs.Answers.{read_refusal}
+use Rattle.faces.specs.Lists.{FaceList, list_refusal}
+use Rattle.join.specs.Joinings.{Joined, join_refusal}
+use Rattle.gauge.specs.Readings as gauge
+use Rattle.gauge.specs.Readings.{Gauged}
+use Rattle.file.specs.Answers.{Answer, read_refusal}
 use Rattle.chart.proofs.check.Kinds as check-kinds
 use Rattle.chart.proofs.check.Reads as check
 use Rattle.chart.proofs.check.Statement as check-statement
@@ -99,16 +93,16 @@ pub record Lending (n : ℕ) (ps : List (ParamKind n)) (r : ResultKind n) (S : T
 pub record Questions : Type 2 where
   pub check : Question 1 check-kinds.ps check-kinds.r check-statement.statement Verdict check.Pre check.Post
       (λ v. (refusal_of v).number)
-  pub point : Question 1 point-kinds.ps point-kinds.r point-statement.statement Place point.Pre point.Post
-      (λ v. (place_refusal v).number)
+  pub point : Question 1 point-kinds.ps point-kinds.r point-statement.statement
+      (Result Place ChartRefusal) point.Pre point.Post (λ v. (refusal_of v).number)
   pub inside-by-mark : Question 1 inside-by-mark-kinds.ps inside-by-mark-kinds.r inside-by-mark-statement.statement
-      Place inside-by-mark.Pre inside-by-mark.Post (λ v. (place_refusal v).number)
+      (Result Place ChartRefusal) inside-by-mark.Pre inside-by-mark.Post (λ v. (refusal_of v).number)
   pub nearest-below : Question 1 nearest-below-kinds.ps nearest-below-kinds.r nearest-below-statement.statement
-      Nearest nearest-below.Pre nearest-below.Post (λ v. (nearest_refusal v).number)
-  pub area2 : Question 1 area2-kinds.ps area2-kinds.r area2-statement.statement Area area2.Pre area2.Post
-      (λ v. (area_refusal v).number)
+      (Result (Option ℕ) ChartRefusal) nearest-below.Pre nearest-below.Post (λ v. (refusal_of v).number)
+  pub area2 : Question 1 area2-kinds.ps area2-kinds.r area2-statement.statement
+      (Result ℤ ChartRefusal) area2.Pre area2.Post (λ v. (refusal_of v).number)
   pub read-sample : Question 0 read-sample-kinds.ps read-sample-kinds.r read-sample-statement.statement
-      Gauged read-sample.Pre read-sample.Post (λ v. v.refusal)
+      Gauged read-sample.Pre read-sample.Post gauge.refusal_number
   -- these two hand back a part and give no number
   pub corner : Returns 1 corner-kinds.ps corner-statement.statement corner.Pre
   pub smaller-head : Returns 1 smaller-head-kinds.ps smaller-head-statement.statement smaller-head.Pre

@@ -10,31 +10,31 @@ use denote.Ref.{Bor}
 use lib.IntN.{ℤ}
 use Rattle.plane.specs.declared.Point.{Point}
 use Rattle.parts.specs.Parts.{Part}
-use Rattle.chart.specs.declared.Refusal.{Refusal}
-use Rattle.chart.specs.declared.Verdict.TheVariants.{Refused}
+use Rattle.std.specs.Prelude.{Err}
+use Rattle.chart.specs.declared.ChartRefusal.{ChartRefusal}
 use Rattle.chart.specs.Verdicts.{limit, refusal_of, verdict}
 use Rattle.chart.proofs.IndexLaws.{verdict-told}
-use Rattle.area.specs.Areas.{area_refusal, area_of}
+use Rattle.area.specs.Areas.{area_of}
 use Rattle.area.proofs.AreaLaws.{area_of-refusal}
-use Rattle.question.specs.Places.{placed, place_refusal}
-use Rattle.nearest.specs.Nearests.{nearest_below, nearest_refusal}
+use Rattle.question.specs.Places.{placed}
+use Rattle.nearest.specs.Nearests.{nearest_below}
 use Rattle.question.specs.Corners.{Corner}
 use Rattle.question.proofs.RefusalLaws.{placed-refusal}
 use Rattle.nearest.proofs.RefusalLaws.{nearest_below-refusal}
 use Rattle.question.proofs.CornerLaws.{corner_of-refused}
 
-pub point-refusal : (s : List ℤ) (p : Point) → place_refusal (placed s p) ≡ refusal_of (verdict s)
+pub point-refusal : (s : List ℤ) (p : Point) → refusal_of (placed s p) ≡ refusal_of (verdict s)
 point-refusal s p = placed-refusal s p
 
-pub nearest-refusal : (s : List ℤ) (p : Point) → nearest_refusal (nearest_below s p) ≡ refusal_of (verdict s)
+pub nearest-refusal : (s : List ℤ) (p : Point) → refusal_of (nearest_below s p) ≡ refusal_of (verdict s)
 nearest-refusal s p = nearest_below-refusal s p
 
-pub area-refusal : (s : List ℤ) → area_refusal (area_of s) ≡ refusal_of (verdict s)
+pub area-refusal : (s : List ℤ) → refusal_of (area_of s) ≡ refusal_of (verdict s)
 area-refusal s = area_of-refusal s
 
 pub chart-refusals : (s : List ℤ) → ((refusal_of (verdict s)).number ≤ 9) × ((refusal_of (verdict s)).index < limit)
 chart-refusals s = let told = verdict-told s in (told.number, told.index)
 
-pub corner-refused : (s : Bor (List ℤ)) (p : Point) (r : Bor (List ℤ)) (q : Refusal) → verdict s.now ≡ Refused q
+pub corner-refused : (s : Bor (List ℤ)) (p : Point) (r : Bor (List ℤ)) (q : ChartRefusal) → verdict s.now ≡ Err q
     → Corner s p r → r.now ≡ []
 corner-refused s p r q e h = (subst (λ a. Part s a r) (corner_of-refused s.now p e) h).numbers

@@ -25,7 +25,7 @@ use Rattle.record.specs.declared.Record.{Record}
 use Rattle.record.specs.Records.{record_at, records, marked}
 use Rattle.record.specs.Order.{square_length, leads, earlier, precedes}
 use Rattle.segment.specs.Segments.{segment, of_segment, is_record}
-use Rattle.chart.specs.declared.Verdict.TheVariants.{Accepted}
+use Rattle.std.specs.Prelude.{Ok}
 use Rattle.chart.specs.Verdicts.{judged, verdict}
 use Rattle.region.specs.Boundaries.{counted}
 use Rattle.question.specs.declared.Place.TheVariants.{Inside, Outside}
@@ -69,14 +69,14 @@ diamond =
     ∷ []
 
 pub record Slips : Type 0 where
-  pub diamond-accepted : verdict diamond ≡ Accepted
-  pub centre-inside : placed diamond (point_of (pos 2) (pos 2)) ≡ Inside
+  pub diamond-accepted : verdict diamond ≡ Ok tt
+  pub centre-inside : placed diamond (point_of (pos 2) (pos 2)) ≡ Ok Inside
   pub both-ends-even : odd (count (of_segment (both_ends (point_of (pos 2) (pos 2)))) (records diamond)) ≡ false
-  pub square-accepted : verdict square ≡ Accepted
-  pub over-outside : placed square (point_of (pos 0) (pos 5)) ≡ Outside
+  pub square-accepted : verdict square ≡ Ok tt
+  pub over-outside : placed square (point_of (pos 0) (pos 5)) ≡ Ok Outside
   pub with-verticals-odd : odd (count (of_segment (with_verticals (point_of (pos 0) (pos 5)))) (records square)) ≡ true
-  pub wedge-accepted : verdict wedge ≡ Accepted
-  pub left-outside : placed wedge (point_of (pos 0) (pos 2)) ≡ Outside
+  pub wedge-accepted : verdict wedge ≡ Ok tt
+  pub left-outside : placed wedge (point_of (pos 0) (pos 2)) ≡ Ok Outside
   pub any-highest : any_highest (records wedge) (point_of (pos 0) (pos 2)) (record_at wedge 0) ≡ true
   pub any-marked : (record_at wedge 0).mark ≡ marked
 

@@ -20,7 +20,7 @@ use Rattle.plane.specs.declared.Point.{Point}
 use Rattle.record.specs.Records.{record_at, record_count}
 use Rattle.record.specs.Order.{other_half}
 use Rattle.among.specs.Among.{end_count}
-use Rattle.chart.specs.declared.Verdict.TheVariants.{Accepted}
+use Rattle.std.specs.Prelude.{Ok}
 use Rattle.chart.specs.Verdicts.{verdict}
 use Rattle.chart.specs.Regions.{Region}
 use Rattle.chart.proofs.RegionLaws.{accepted-is}
@@ -40,7 +40,7 @@ use Rattle.walks.proofs.CycleLaws.{cycle-of}
 use Rattle.walks.proofs.CyclePartLaws.{cycle-part}
 use Rattle.faces.proofs.AnyCutLaws.{any-cut}
 
-module _ (s : List ℤ) (v : verdict s ≡ Accepted) where
+module _ (s : List ℤ) (v : verdict s ≡ Ok tt) where
   region : Region s
   region = (accepted-is s).0 v
 

@@ -10,12 +10,14 @@
 --     doubled, shifted, halved    bridges: gain 2, zero 0; gain 1, zero 1; gain 0.5, zero 0
 --     spring             rate 1, pin 1,000
 --     reads p r          the pressure p and the row r, not refused
+--     as_told k i        a refusal as C and the programs read it: its number k, with the index i
 -- Assumes nothing.
-use Rattle.std.specs.Prelude.{false, List, [], ◌∷◌, ℕ, ℤ, pos, negsuc, Float}
+use Rattle.std.specs.Prelude.{false, List, [], ◌∷◌, ℕ, ℤ, pos, negsuc, Float, Ok}
 use Rattle.std.specs.Float.{fin}
+use Rattle.chart.specs.declared.Refusal.{Refusal}
 use Rattle.gauge.specs.declared.Card.{Card}
 use Rattle.gauge.specs.declared.Card.TheVariants.{Spring, Bridge}
-use Rattle.gauge.specs.declared.Gauged.{Gauged}
+use Rattle.gauge.specs.Readings.{Gauged}
 
 abbrev pub square : List ℤ
 square =
@@ -136,4 +138,9 @@ abbrev pub spring : Card
 spring = Spring one thousand
 
 abbrev pub reads : Float → ℤ → Gauged
-reads p r = record { refusal = 0; reading = record { pressure = p; row = r } }
+reads p r = Ok (record { pressure = p; row = r })
+
+-- ---- refusals
+
+abbrev pub as_told : ℕ → ℕ → Refusal
+as_told k i = record { number = k; index = i }

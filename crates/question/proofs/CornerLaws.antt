@@ -15,19 +15,18 @@ use Rattle.record.specs.Records.{width}
 use Rattle.parts.specs.declared.Span.{Span}
 use Rattle.parts.specs.Parts.{nowhere, run_of}
 use Rattle.parts.proofs.PartLaws.{Within, run-within}
-use Rattle.chart.specs.declared.Refusal.{Refusal}
-use Rattle.chart.specs.declared.Verdict.{Verdict}
-use Rattle.chart.specs.declared.Verdict.TheVariants.{Accepted, Refused}
-use Rattle.chart.specs.Verdicts.{limit, verdict, accepted}
+use Rattle.std.specs.Prelude.{Ok, Err}
+use Rattle.chart.specs.declared.ChartRefusal.{ChartRefusal}
+use Rattle.chart.specs.Verdicts.{Verdict, limit, verdict, accepted}
 use Rattle.chart.proofs.VerdictLaws.{verdict-accepted}
 use Rattle.question.specs.Corners.{corner_of}
 
 module _ (s : List ℤ) (p : Point) where
-  pub corner_of-accepted : verdict s ≡ Accepted → corner_of s p ≡ run_of s p
+  pub corner_of-accepted : verdict s ≡ Ok tt → corner_of s p ≡ run_of s p
   unfolding corner_of
   corner_of-accepted e = rw e
 
-  pub corner_of-refused : {q : Refusal} → verdict s ≡ Refused q → corner_of s p ≡ nowhere
+  pub corner_of-refused : {q : ChartRefusal} → verdict s ≡ Err q → corner_of s p ≡ nowhere
   unfolding corner_of
   corner_of-refused e = rw e
 
@@ -50,8 +49,8 @@ module _ (s : List ℤ) (p : Point) where
   corner-short e = rw e (go (verdict s) refl)
     where
       go : (v : Verdict) → verdict s ≡ v → (corner_of s p).upto ≤ width * limit
-      go Accepted h =
+      go (Ok tt) h =
           let few = (verdict-accepted s).0 h in
           rw (corner_of-accepted h)
           (omega (arith, (run-within s p {a = run_of s p} refl).1, few.few, few.whole))
-      go (Refused q) h = rw (corner_of-refused h) zero-le
+      go (Err q) h = rw (corner_of-refused h) zero-le

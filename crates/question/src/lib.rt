@@ -4,26 +4,25 @@
 
 ghost use Rattle.std.specs.Prelude.{◌≡◌};
 ghost use Rattle.counts.specs.Count.{odd};
-ghost use Rattle.counts.specs.Scan.{Found, Counted};
+ghost use Rattle.counts.specs.Scan.{any_place, count_places};
 ghost use Rattle.plane.specs.Columns.{holds};
 ghost use Rattle.grid.specs.Coordinates.{point_of};
-ghost use Rattle.record.specs.Records.{record_at, first_records, records};
+ghost use Rattle.record.specs.Records.{record_at, record_count, records};
 ghost use Rattle.segment.specs.Segments.{of_segment};
 ghost use Rattle.region.specs.Boundaries.{held, counted, below};
 ghost use Rattle.question.specs.Places.{place_by, placed};
 ghost use Rattle.question.specs.Corners.{corner_of, Corner};
 
-use chart::{Refusal, Verdict, check};
+use chart::{ChartRefusal, check};
 use parts::Span;
 use plane::Point;
-use record::{Record, WIDTH, record_at};
+use record::{Record, record_at, record_count};
 
-#[derive(Clone, Copy)]
+#[derive(Clone, Copy, Debug, PartialEq, Eq)]
 pub enum Place {
     Outside,
     Inside,
     Edge,
-    Refused(Refusal),
 }
 
 // ---- where a point lies
@@ -31,59 +30,42 @@ pub enum Place {
 fn is_held(p: Point, e: Record) -> bool
     ensures { result ≡ of_segment (holds p) e }
 {
-    record::is_left(e) && segment::is_on(p, segment::segment_of(e))
+    segment::segment_of_left(e).is_some_and(|t| segment::is_on(p, t))
 }
 
-#[tactic(auto, using(counts::proofs::StepLaws::looking))]
-fn first_held(s: &[i16], n: usize, p: Point) -> usize
-    ensures { Found (of_segment (holds p)) (record_at s.now) 0 n result }
+fn is_any_holding(s: &[i16], p: Point) -> bool
+    ensures { result ≡ any_place (of_segment (holds p)) (record_at s.now) (record_count s.now) }
 {
-    let mut i = 0;
-    while i < n {
-        let e = record_at(s, i);
-        if is_held(p, e) {
-            return i;
-        }
-        i += 1;
-    }
-    n
+    (0..record_count(s)).any(|i| is_held(p, record_at(s, i)))
 }
 
 // Whether a segment of the array's records holds p.
-#[tactic(auto, using(crate::proofs::PlaceLaws::found_held))]
+#[tactic(auto, using(counts::proofs::PlaceLaws::any_place_is))]
 pub fn is_edge(s: &[i16], p: Point) -> bool
     ensures { result ≡ held (records s.now) p }
 {
-    let n = s.len() / WIDTH;
-    first_held(s, n, p) < n
+    is_any_holding(s, p)
 }
 
 pub fn is_below(p: Point, e: Record) -> bool
     ensures { result ≡ counted p e }
 {
-    record::is_left(e) && segment::is_below_point(p, segment::segment_of(e))
+    segment::segment_of_left(e).is_some_and(|t| segment::is_below_point(p, t))
 }
 
-#[tactic(auto, using(counts::proofs::StepLaws::summing))]
-fn count_below(s: &[i16], n: usize, p: Point) -> usize
-    ensures { Counted (counted p) (record_at s.now) n result }
+fn count_below(s: &[i16], p: Point) -> usize
+    ensures { result ≡ count_places (counted p) (record_at s.now) (record_count s.now) }
 {
-    let mut i = 0;
-    let mut m = 0;
-    while i < n {
-        let e = record_at(s, i);
-        if is_below(p, e) {
-            m += 1;
-        }
-        i += 1;
-    }
-    m
+    (0..record_count(s))
+        .filter(|&i| is_below(p, record_at(s, i)))
+        .count()
 }
 
-fn is_odd_below(s: &[i16], n: usize, p: Point) -> bool
-    ensures { result ≡ odd (below (first_records s.now n) p) }
+#[tactic(auto, using(counts::proofs::PlaceLaws::count_places_is))]
+fn is_odd_below(s: &[i16], p: Point) -> bool
+    ensures { result ≡ odd (below (records s.now) p) }
 {
-    count_below(s, n, p) % 2 == 1
+    count_below(s, p) % 2 == 1
 }
 
 // Edge where a segment holds the point; else by whether an odd number lies below it.
@@ -91,26 +73,22 @@ pub fn place_by(edge: bool, inner: bool) -> Place
     ensures { result ≡ place_by edge inner }
 {
     if edge {
-        return Place::Edge;
+        Place::Edge
+    } else if inner {
+        Place::Inside
+    } else {
+        Place::Outside
     }
-    if inner {
-        return Place::Inside;
-    }
-    Place::Outside
 }
 
 // Whether a point lies inside the chart, outside it or on its edge.
 #[tactic(auto, unfolding(crate::specs::Places::placed, crate::specs::Places::place_of))]
-pub fn point(chart: &[i16], x: i16, y: i16) -> Place
+pub fn point(chart: &[i16], x: i16, y: i16) -> Result<Place, ChartRefusal>
     ensures { result ≡ placed chart.now (point_of x y) }
 {
+    check(chart)?;
     let p = grid::point_of(x, y);
-    let n = chart.len() / WIDTH;
-    let v = check(chart);
-    match v {
-        Verdict::Accepted => place_by(is_edge(chart, p), is_odd_below(chart, n, p)),
-        Verdict::Refused(r) => Place::Refused(r),
-    }
+    Ok(place_by(is_edge(chart, p), is_odd_below(chart, p)))
 }
 
 // ---- the run at a corner
@@ -120,12 +98,10 @@ pub fn point(chart: &[i16], x: i16, y: i16) -> Place
 pub fn corner_of(chart: &[i16], x: i16, y: i16) -> Span
     ensures { result ≡ corner_of chart.now (point_of x y) }
 {
-    let p = grid::point_of(x, y);
-    let v = check(chart);
-    match v {
-        Verdict::Accepted => parts::run_of(chart, p),
-        Verdict::Refused(_) => Span { from: 0, upto: 0 },
+    if check(chart).is_err() {
+        return Span::NOWHERE;
     }
+    parts::run_of(chart, grid::point_of(x, y))
 }
 
 // That run, as that very part of the chart.
@@ -134,7 +110,5 @@ pub fn corner(chart: &[i16], x: i16, y: i16) -> &[i16]
     ensures { Corner chart.entry (point_of x y) result }
 {
     let run = corner_of(chart, x, y);
-    let from = run.from;
-    let upto = run.upto;
-    &chart[from..upto]
+    &chart[run.from..run.upto]
 }

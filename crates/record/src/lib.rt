@@ -3,7 +3,7 @@
 #![tactic(auto)]
 
 ghost use Rattle.std.specs.Prelude.{◌≡◌, ◌+◌, ◌*◌, ◌<◌, pos, get_or};
-ghost use Rattle.record.specs.Records.{width, record_at};
+ghost use Rattle.record.specs.Records.{width, record_at, record_count};
 ghost use Rattle.record.specs.Order.{left, other_half};
 
 use plane::Point;
@@ -13,14 +13,15 @@ pub mod order;
 // How many numbers a record takes in a chart array.
 pub const WIDTH: usize = 5;
 
-// The marks 0 and 1, counted from the grid's lower end like every number of a record.
+// The marks 0 and 1, counted from the grid's lower end like every number of a record. Numbers and no enum: a mark that
+// is neither has to be read, too, before a chart can be refused for it.
 pub const UNMARKED: u16 = 32768;
 
 pub const MARKED: u16 = 32769;
 
 // A record: half of a segment, seen from its dominating end. Its numbers are counted from the grid's lower end, the
 // mark too.
-#[derive(Clone, Copy)]
+#[derive(Clone, Copy, Debug, PartialEq, Eq)]
 pub struct Record {
     pub dom: Point,
     pub other: Point,
@@ -29,22 +30,24 @@ pub struct Record {
 
 // ---- reading: the one place where a record is taken out of an array
 
+// How many whole records the array has: numbers left over at its end belong to none.
+pub fn record_count(s: &[i16]) -> usize
+    ensures { result ≡ record_count s.now }
+{
+    s.len() / WIDTH
+}
+
 // Number k of record i. It reads as 0 where it is missing: past the end, and past what is left over there.
 fn number_of(s: &[i16], i: usize, k: usize) -> i16
     requires { k < width }
     ensures { result ≡ get_or s.now (width * i + k) (pos 0) }
 {
-    let n = s.len() / WIDTH;
-    if i < n {
-        return s[WIDTH * i + k];
+    let n = record_count(s);
+    if i < n || i == n && k < s.len() % WIDTH {
+        s[WIDTH * i + k]
+    } else {
+        0
     }
-    if n < i {
-        return 0;
-    }
-    if s.len() % WIDTH <= k {
-        return 0;
-    }
-    s[WIDTH * i + k]
 }
 
 // Record i of any array: what is missing reads as 0. All numbers are read before any is used, so that those of a whole
@@ -70,17 +73,15 @@ pub fn record_at(s: &[i16], i: usize) -> Record
 pub fn is_left(r: Record) -> bool
     ensures { result ≡ left r }
 {
-    points::is_before(r.dom, r.other)
+    r.dom < r.other
 }
 
 pub fn other_half(r: Record) -> Record
     ensures { result ≡ other_half r }
 {
-    let d = r.dom;
-    let o = r.other;
     Record {
-        dom: o,
-        other: d,
+        dom: r.other,
+        other: r.dom,
         mark: r.mark,
     }
 }

@@ -1,25 +1,16 @@
 // The order of two records (document 01, "How a chart is laid out").
 ghost use Rattle.std.specs.Prelude.{◌≡◌};
-ghost use Rattle.record.specs.Order.{gap, Squared, leads, earlier, precedes};
+ghost use Rattle.record.specs.Order.{Squared, leads, earlier, precedes};
 
 use crate::{Record, is_left};
 use points::Turn;
-
-fn gap_of(m: u16, n: u16) -> u16
-    ensures { result ≡ gap m n }
-{
-    if m < n {
-        return n - m;
-    }
-    m - n
-}
 
 #[tactic(auto, unfolding(crate::specs::Order::square_length))]
 fn square_length_of(r: Record) -> u64
     ensures { Squared r result }
 {
-    let w = gap_of(r.dom.x, r.other.x);
-    let h = gap_of(r.dom.y, r.other.y);
+    let w = r.dom.x.abs_diff(r.other.x);
+    let h = r.dom.y.abs_diff(r.other.y);
     points::product(w, w) + points::product(h, h)
 }
 
@@ -28,8 +19,7 @@ fn square_length_of(r: Record) -> u64
 fn is_leading(r: Record, e: Record) -> bool
     ensures { result ≡ leads r e }
 {
-    let t = points::turn_of(r.dom, r.other, e.other);
-    match t {
+    match points::turn_of(r.dom, r.other, e.other) {
         Turn::Left => true,
         Turn::Straight => square_length_of(r) < square_length_of(e),
         Turn::Right => false,
@@ -46,13 +36,10 @@ fn is_earlier_here(r: Record, e: Record) -> bool
     is_left(e) || is_leading(r, e)
 }
 
-// Whether r comes strictly before e in a chart.
+// Whether r comes strictly before e in a chart. No `Ord`: the mark does not count here, and in `==` it does.
 #[tactic(auto, unfolding(crate::specs::Order::precedes))]
 pub fn is_earlier(r: Record, e: Record) -> bool
     ensures { result ≡ precedes r e }
 {
-    if points::is_before(r.dom, e.dom) {
-        return true;
-    }
-    points::is_same(r.dom, e.dom) && is_earlier_here(r, e)
+    r.dom < e.dom || r.dom == e.dom && is_earlier_here(r, e)
 }

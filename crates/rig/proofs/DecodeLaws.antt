@@ -24,18 +24,18 @@ use Rattle.question.specs.Corners.{corner_of}
 use Rattle.question.proofs.RefusalLaws.{placed-refusal}
 use Rattle.area.specs.Areas.{area_of}
 use Rattle.area.proofs.AreaLaws.{area_of-refusal}
-use Rattle.faces.specs.declared.FaceList.{FaceList}
-use Rattle.faces.specs.declared.FaceList.TheVariants.{Listed}
+use Rattle.std.specs.Prelude.{Ok, Err}
+use Rattle.faces.specs.declared.FaceCounts.{FaceCounts}
 use Rattle.faces.specs.Lists as lists
-use Rattle.faces.specs.Lists.{labels_of, cycle_list, faces_of, list_refusal, Lists}
+use Rattle.faces.specs.Lists.{FaceList, labels_of, cycle_list, faces_of, list_refusal, Lists}
 use Rattle.faces.proofs.OutcomeLaws.{lists-told, counts-small, faces_of-told}
 use Rattle.sides.specs.declared.Op.{Op}
 use Rattle.join.specs.Joinings as joining
-use Rattle.join.specs.Joinings.{Outcome, joined, refused, join_refusal, chart_named, outcome, Joins}
+use Rattle.join.specs.Joinings.{Outcome, join_refusal, chart_named, told_joining, named, outcome, Joins}
 use Rattle.join.proofs.OutcomeLaws.{outcome-told, told-small}
 use Rattle.file.specs.Files as file
 use Rattle.file.specs.Files.{Taken, taken, file_of}
-use Rattle.file.specs.Answers.{answer_of, read_refusal, contents, Reads}
+use Rattle.file.specs.Answers.{answer_of, told, read_refusal, contents, Reads}
 use Rattle.file.proofs.RefusalLaws.{file_of-told, numbers}
 use Rattle.rig.specs.Bits.{packed, value_of, number_of, length_of}
 use Rattle.rig.specs.Answers.{check_answer, place_kind, point_answer, corner_answer, area_answer}
@@ -82,21 +82,21 @@ module _ (s : List ℤ) (labels cycles : List ℕ) where
   abbrev answer : FaceList
   answer = faces_of s (length labels) (length cycles)
 
-  told : Lists s labels cycles (lists.contents answer (labels_of s) labels)
+  lists-so : Lists s labels cycles (lists.contents answer (labels_of s) labels)
       (lists.contents answer (cycle_list s) cycles)
       answer
-  told = record { says = refl; labelled = refl; listed = refl }
+  lists-so = record { says = refl; labelled = refl; listed = refl }
 
   pub faces-decoded : Decoded (faces_answer answer) (faces_value answer) (list_refusal answer).number 0 0
   faces-decoded =
-      packed-decoded (faces_value answer) (list_refusal answer).number 0 0 (faces-small s labels cycles _ _ told)
+      packed-decoded (faces_value answer) (list_refusal answer).number 0 0 (faces-small s labels cycles _ _ lists-so)
       (omega (arith, (faces_of-told s (length labels) (length cycles)).0)) (omega arith)
 
-  pub counts-decoded : (m k : ℕ) → answer ≡ Listed m k
-      → (bits.cycles_of (faces_answer answer) ≡ m) × (bits.faces_of (faces_answer answer) ≡ k)
+  pub counts-decoded : (c : FaceCounts) → answer ≡ Ok c
+      → (bits.cycles_of (faces_answer answer) ≡ c.cycles) × (bits.faces_of (faces_answer answer) ≡ c.faces)
   unfolding packed bits.cycles_of bits.faces_of
-  counts-decoded m k e =
-      let few = counts-small (lists-told (subst (Lists s labels cycles _ _) e told)) in
+  counts-decoded c e =
+      let few = counts-small (lists-told (subst (Lists s labels cycles _ _) e lists-so)) in
       rw e (omega (arith, few), omega (arith, few))
 
 -- ---- of two charts
@@ -116,12 +116,12 @@ module _ (op : Op) (a b lent : List ℤ) where
       go : (o : Outcome) → outcome op a b (length lent) ≡ o
           → let j = joining.answer_of o in
           Decoded (join_answer j) (join_value j) (join_refusal j).number (chart_named j) 0
-      go (joined rs) e =
+      go (Ok rs) e =
           packed-decoded _ 0 0 0 (rw (ap (λ o. join_value (joining.answer_of o)) e) at small) (omega arith)
           (omega arith)
-      go (refused c r) e =
-          let fits = told-small (outcome-told op a b (length lent) c r e) in
-          packed-decoded r.index r.number c 0
+      go (Err r) e =
+          let fits = told-small (outcome-told op a b (length lent) r e) in
+          packed-decoded (told_joining r).index (told_joining r).number (named r) 0
           (rw (ap (λ o. join_value (joining.answer_of o)) e) at small)
           (omega (arith, fits.number)) (omega (arith, fits.chart))
 
@@ -140,8 +140,8 @@ module _ (s : List ℕ) (lent : List ℤ) where
       go (taken zs end) e =
           packed-decoded _ 0 0 0 (records-small s lent _ reads (ap answer_of e)) (omega arith) (omega arith)
       go (file.refused r) e =
-          packed-decoded r.index r.number 0 0 (place-small s lent _ reads (ap answer_of e))
-          (omega (arith, numbers r.number (file_of-told s (length lent) e).number)) (omega arith)
+          packed-decoded (told r).index (told r).number 0 0 (place-small s lent _ reads (ap answer_of e) refl)
+          (omega (arith, numbers (told r).number (file_of-told s (length lent) e).number)) (omega arith)
 
 -- ---- of a sample
 

@@ -16,66 +16,56 @@
 --     Combines op a b lent out n    n is the answer of joining a and b, and the array that was `lent` is then `out`
 --     FileRead s lent out n    n is the answer of a file s, and the array that was `lent` is then `out`
 -- Assumes nothing.
-use Rattle.std.specs.Prelude.{◌≡◌, List, ℕ, ◌+◌, ◌-◌, ◌*◌, ◌^◌, ℤ, length}
+use Rattle.std.specs.Prelude.{◌≡◌, List, ℕ, ◌+◌, ◌-◌, ◌*◌, ◌^◌, ℤ, length, Option, Some, None, Result, Ok, Err}
 use Rattle.parts.specs.declared.Span.{Span}
-use Rattle.parts.specs.declared.Head.{Head}
-use Rattle.parts.specs.declared.Head.TheVariants as head
-use Rattle.chart.specs.declared.Verdict.{Verdict}
-use Rattle.chart.specs.Verdicts.{refusal_of}
+use Rattle.parts.specs.declared.Which.{Which}
+use Rattle.parts.specs.declared.Which.TheVariants.{First, Second}
+use Rattle.chart.specs.declared.ChartRefusal.{ChartRefusal}
+use Rattle.chart.specs.Verdicts.{Verdict, refusal_of}
 use Rattle.question.specs.declared.Place.{Place}
-use Rattle.question.specs.declared.Place.TheVariants as place
-use Rattle.question.specs.Places.{place_refusal}
-use Rattle.area.specs.declared.Area.{Area}
-use Rattle.area.specs.declared.Area.TheVariants as area
-use Rattle.area.specs.Areas.{area_refusal}
-use Rattle.faces.specs.declared.FaceList.{FaceList}
-use Rattle.faces.specs.declared.FaceList.TheVariants as faces
+use Rattle.question.specs.declared.Place.TheVariants.{Outside, Inside, Edge}
 use Rattle.faces.specs.Lists as lists
-use Rattle.faces.specs.Lists.{labels_of, cycle_list, faces_of, list_refusal}
+use Rattle.faces.specs.Lists.{FaceList, labels_of, cycle_list, faces_of, list_refusal}
 use Rattle.sides.specs.declared.Op.{Op}
-use Rattle.join.specs.declared.Joined.{Joined}
-use Rattle.join.specs.declared.Joined.TheVariants as join
 use Rattle.join.specs.Joinings as joining
-use Rattle.join.specs.Joinings.{join_refusal, chart_named, outcome}
-use Rattle.file.specs.declared.Answer.{Answer}
-use Rattle.file.specs.declared.Answer.TheVariants as file
+use Rattle.join.specs.Joinings.{Joined, join_refusal, chart_named, outcome}
 use Rattle.file.specs.Files.{file_of}
-use Rattle.file.specs.Answers.{answer_of, read_refusal, contents}
+use Rattle.file.specs.Answers.{Answer, answer_of, read_refusal, contents}
 use Rattle.rig.specs.Bits.{packed, of_refusal}
 
 abbrev pub check_answer : Verdict → ℕ
 check_answer v = of_refusal (refusal_of v)
 
-abbrev pub place_kind : Place → ℕ
-place_kind place.Outside = 0
-place_kind place.Inside = 1
-place_kind place.Edge = 2
-place_kind (place.Refused r) = 0
+abbrev pub place_kind : Result Place ChartRefusal → ℕ
+place_kind (Ok Outside) = 0
+place_kind (Ok Inside) = 1
+place_kind (Ok Edge) = 2
+place_kind (Err r) = 0
 
-abbrev pub point_answer : Place → ℕ
-point_answer a = packed (place_refusal a).index (place_refusal a).number 0 (place_kind a)
+abbrev pub point_answer : Result Place ChartRefusal → ℕ
+point_answer a = packed (refusal_of a).index (refusal_of a).number 0 (place_kind a)
 
 unfoldable pub corner_answer : Span → ℕ
 corner_answer a = a.from + 2 ^ 32 * (a.upto - a.from)
 
-abbrev pub head_kind : Head → ℕ
-head_kind head.Neither = 0
-head_kind head.First = 1
-head_kind head.Second = 2
+abbrev pub head_kind : Option Which → ℕ
+head_kind None = 0
+head_kind (Some First) = 1
+head_kind (Some Second) = 2
 
-abbrev pub head_answer : Head → ℕ
+abbrev pub head_answer : Option Which → ℕ
 head_answer h = packed 0 0 0 (head_kind h)
 
-abbrev pub area_answer : Area → ℕ
-area_answer a = of_refusal (area_refusal a)
+abbrev pub area_answer : Result ℤ ChartRefusal → ℕ
+area_answer a = of_refusal (refusal_of a)
 
-abbrev pub area_left : Area → ℤ → ℤ
-area_left (area.Twice z) lent = z
-area_left (area.Refused r) lent = lent
+abbrev pub area_left : Result ℤ ChartRefusal → ℤ → ℤ
+area_left (Ok z) lent = z
+area_left (Err r) lent = lent
 
 abbrev pub faces_value : FaceList → ℕ
-faces_value (faces.Listed m k) = m + 2 ^ 16 * k
-faces_value (faces.Refused r) = r.index
+faces_value (Ok c) = c.cycles + 2 ^ 16 * c.faces
+faces_value (Err r) = (list_refusal (Err r)).index
 
 abbrev pub faces_answer : FaceList → ℕ
 faces_answer a = packed (faces_value a) (list_refusal a).number 0 0
@@ -86,8 +76,8 @@ pub record FacesListed (s : List ℤ) (labels cycles labels' cycles' : List ℕ)
   pub listed : cycles' ≡ lists.contents (faces_of s (length labels) (length cycles)) (cycle_list s) cycles
 
 abbrev pub join_value : Joined → ℕ
-join_value (join.Records n) = n
-join_value (join.Refused c r) = r.index
+join_value (Ok n) = n
+join_value (Err r) = (join_refusal (Err r)).index
 
 abbrev pub join_answer : Joined → ℕ
 join_answer j = packed (join_value j) (join_refusal j).number (chart_named j) 0
@@ -97,8 +87,8 @@ pub record Combines (op : Op) (a b lent out : List ℤ) (n : ℕ) : Type 0 where
   pub leaves : out ≡ joining.contents (outcome op a b (length lent)) lent
 
 abbrev pub read_value : Answer → ℕ
-read_value (file.Records n) = n
-read_value (file.Refused r) = r.index
+read_value (Ok n) = n
+read_value (Err r) = (read_refusal (Err r)).index
 
 abbrev pub read_answer : Answer → ℕ
 read_answer a = packed (read_value a) (read_refusal a).number 0 0

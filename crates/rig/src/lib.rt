@@ -6,24 +6,23 @@
 ghost use Rattle.std.specs.Prelude.{◌≡◌, ◌+◌, ◌*◌, ◌^◌, ◌<◌};
 ghost use Rattle.grid.specs.Coordinates.{point_of};
 ghost use Rattle.parts.specs.Parts.{head_of};
-ghost use Rattle.chart.specs.Verdicts.{verdict};
-ghost use Rattle.question.specs.Places.{placed, place_refusal};
+ghost use Rattle.chart.specs.Verdicts.{verdict, refusal_of};
+ghost use Rattle.question.specs.Places.{placed};
 ghost use Rattle.question.specs.Corners.{corner_of};
 ghost use Rattle.area.specs.Areas.{area_of};
 ghost use Rattle.sides.specs.declared.Op.TheVariants.{Union, Intersection, Difference};
+ghost use Rattle.gauge.specs.Readings.{refusal_number, handed};
 ghost use Rattle.rig.specs.Bits.{packed, of_refusal};
 ghost use Rattle.rig.specs.Answers.{check_answer, point_answer, corner_answer, head_answer, area_answer, area_left};
 ghost use Rattle.rig.specs.Answers.{faces_value, faces_answer, FacesListed};
 ghost use Rattle.rig.specs.Answers.{join_value, join_answer, Combines, FileRead};
 ghost use Rattle.rig.specs.Gauging.{KindGauges, SampleRead};
 
-use area::Area;
-use chart::{Refusal, Verdict};
-use faces::FaceList;
-use file::Answer;
-use gauge::{Card, Gauged, Reading};
-use join::{Joined, combine};
-use parts::Head;
+use chart::{ChartRefusal, Refusal};
+use faces::{FaceCounts, FaceRefusal};
+use gauge::{Card, GaugeRefusal, Reading};
+use join::{JoinRefusal, combine};
+use parts::Which;
 use question::Place;
 use sides::Op;
 
@@ -50,29 +49,27 @@ fn pack_refusal(r: Refusal) -> u64
 }
 
 // Outside is kind 0, Inside 1, Edge 2.
-fn pack_place(a: Place) -> u64
-    requires { (place_refusal a).index < 2 ^ 32 }
+fn pack_place(a: Result<Place, ChartRefusal>) -> u64
+    requires { (refusal_of a).index < 2 ^ 32 }
     ensures { result ≡ point_answer a }
 {
     match a {
-        Place::Outside => pack(0, 0, 0, 0),
-        Place::Inside => pack(0, 0, 0, 1),
-        Place::Edge => pack(0, 0, 0, 2),
-        Place::Refused(r) => pack_refusal(r),
+        Ok(Place::Outside) => pack(0, 0, 0, 0),
+        Ok(Place::Inside) => pack(0, 0, 0, 1),
+        Ok(Place::Edge) => pack(0, 0, 0, 2),
+        Err(r) => pack_refusal(r.into()),
     }
 }
 
 // ---- questions about a chart
 
 // 0 where the chart is accepted.
-#[tactic(auto, using(crate::proofs::Sets::checked))]
 pub fn bz_check(chart: &[i16]) -> u64
     ensures { result ≡ check_answer (verdict chart.now) }
 {
-    let v = chart::check(chart);
-    match v {
-        Verdict::Accepted => pack(0, 0, 0, 0),
-        Verdict::Refused(r) => pack_refusal(r),
+    match chart::check(chart) {
+        Ok(()) => pack(0, 0, 0, 0),
+        Err(r) => pack_refusal(r.into()),
     }
 }
 
@@ -98,46 +95,43 @@ pub fn bz_corner(chart: &[i16], x: i16, y: i16) -> u64
 pub fn bz_head(a: &[i16], b: &[i16]) -> u64
     ensures { result ≡ head_answer (head_of a.now b.now) }
 {
-    let h = parts::head_of(a, b);
-    match h {
-        Head::Neither => pack(0, 0, 0, 0),
-        Head::First => pack(0, 0, 0, 1),
-        Head::Second => pack(0, 0, 0, 2),
+    match parts::head_of(a, b) {
+        None => pack(0, 0, 0, 0),
+        Some(Which::First) => pack(0, 0, 0, 1),
+        Some(Which::Second) => pack(0, 0, 0, 2),
     }
 }
 
 // Twice the area goes to `out`, which stays as it is where the chart is refused.
-#[tactic(auto, using(crate::proofs::AnswerLaws::area_small, crate::proofs::Sets::measured))]
+#[tactic(auto, using(crate::proofs::Sets::measured))]
 pub fn bz_area2(chart: &[i16], out: &mut i64) -> u64
     ensures value { result ≡ area_answer (area_of chart.now) }
     ensures out_after { out.new ≡ area_left (area_of chart.now) out.old }
 {
-    let a = area::area2(chart);
-    match a {
-        Area::Twice(z) => {
+    match area::area2(chart) {
+        Ok(z) => {
             *out = z;
             pack(0, 0, 0, 0)
         }
-        Area::Refused(r) => pack_refusal(r),
+        Err(r) => pack_refusal(r.into()),
     }
 }
 
 // ---- faces
 
 // How many cycles in bits 0 to 15 and how many faces in bits 16 to 31, or the refusal.
-fn pack_faces(a: FaceList) -> u64
+fn pack_faces(a: Result<FaceCounts, FaceRefusal>) -> u64
     requires { faces_value a < 2 ^ 32 }
     ensures { result ≡ faces_answer a }
 {
     match a {
-        FaceList::Listed { cycles, faces } => pack(cycles + 65536 * faces, 0, 0, 0),
-        FaceList::Refused(r) => pack_refusal(r),
+        Ok(counts) => pack(counts.cycles + 65536 * counts.faces, 0, 0, 0),
+        Err(r) => pack_refusal(r.into()),
     }
 }
 
 // The cycle number of each record goes to `labels`, two numbers per cycle to `cycles`; both stay as they are where the
 // chart or the arrays are refused.
-#[tactic(auto, using(crate::proofs::Sets::faced))]
 pub fn bz_faces(chart: &[i16], labels: &mut [u16], cycles: &mut [u16]) -> u64
     ensures { FacesListed chart.now labels.old cycles.old labels.new cycles.new result }
 {
@@ -147,32 +141,33 @@ pub fn bz_faces(chart: &[i16], labels: &mut [u16], cycles: &mut [u16]) -> u64
 // ---- joining two charts
 
 // How many records were written, or the refusal and the chart that it names: 1 or 2, 0 where it names none.
-fn pack_joined(j: Joined) -> u64
+fn pack_joined(j: Result<usize, JoinRefusal>) -> u64
     requires { join_value j < 2 ^ 32 }
     ensures { result ≡ join_answer j }
 {
     match j {
-        Joined::Records(n) => pack(n, 0, 0, 0),
-        Joined::Refused { chart, refusal } => pack(refusal.index, refusal.number, chart, 0),
+        Ok(n) => pack(n, 0, 0, 0),
+        Err(r) => {
+            let refusal = Refusal::from(r);
+            pack(refusal.index, refusal.number, r.chart(), 0)
+        }
     }
 }
 
-// The result goes to `out`, which stays as it is where joining is refused; so it is of the two after it.
-#[tactic(auto, using(crate::proofs::Sets::joined))]
+// The result goes to `out`, which stays as it is where joining is refused; so it is of the two after it. C has a name
+// for each operation.
 pub fn bz_union(a: &[i16], b: &[i16], out: &mut [i16]) -> u64
     ensures { Combines Union a.now b.now out.old out.new result }
 {
     pack_joined(combine(Op::Union, a, b, out))
 }
 
-#[tactic(auto, using(crate::proofs::Sets::joined))]
 pub fn bz_intersection(a: &[i16], b: &[i16], out: &mut [i16]) -> u64
     ensures { Combines Intersection a.now b.now out.old out.new result }
 {
     pack_joined(combine(Op::Intersection, a, b, out))
 }
 
-#[tactic(auto, using(crate::proofs::Sets::joined))]
 pub fn bz_difference(a: &[i16], b: &[i16], out: &mut [i16]) -> u64
     ensures { Combines Difference a.now b.now out.old out.new result }
 {
@@ -182,36 +177,39 @@ pub fn bz_difference(a: &[i16], b: &[i16], out: &mut [i16]) -> u64
 // ---- gauges
 
 // What the card of a kind gives: 0 is a spring, of a rate and a pin, and 1 a bridge, of a gain and a zero.
-#[tactic(auto, using(crate::proofs::Sets::kinds))]
-fn gauged(kind: u8, first: f64, second: f64, sample: i16) -> Gauged
-    ensures { KindGauges kind first second sample result }
+fn gauged(kind: u8, first: f64, second: f64, sample: i16) -> Result<Reading, GaugeRefusal>
+    ensures { KindGauges kind first second sample (refusal_number result) (handed result).pressure (handed result).row }
 {
-    if kind == 0 {
-        let spring = Card::Spring {
-            rate: first,
-            pin: second,
-        };
-        return gauge::read_sample(spring, sample);
+    match kind {
+        0 => gauge::read_sample(
+            Card::Spring {
+                rate: first,
+                pin: second,
+            },
+            sample,
+        ),
+        1 => gauge::read_sample(
+            Card::Bridge {
+                gain: first,
+                zero: second,
+            },
+            sample,
+        ),
+        _ => Err(GaugeRefusal::BrokenRule),
     }
-    if kind == 1 {
-        let bridge = Card::Bridge {
-            gain: first,
-            zero: second,
-        };
-        return gauge::read_sample(bridge, sample);
-    }
-    let reading = Reading {
-        pressure: 0.0,
-        row: 0,
-    };
-    Gauged {
-        refusal: 21,
-        reading,
+}
+
+// The refusal's number, or 0.
+fn number_told(g: Result<Reading, GaugeRefusal>) -> u16
+    ensures { result ≡ refusal_number g }
+{
+    match g {
+        Ok(_) => 0,
+        Err(r) => r.number(),
     }
 }
 
 // Pressure and row are always written.
-#[tactic(auto, using(crate::proofs::Sets::sampled))]
 pub fn bz_gauge(
     kind: u8,
     first: f64,
@@ -223,23 +221,20 @@ pub fn bz_gauge(
     ensures { SampleRead kind first second sample result pressure.new row.new }
 {
     let g = gauged(kind, first, second, sample);
-    let p = g.reading.pressure;
-    let m = g.reading.row;
-    *pressure = p;
-    *row = m;
-    pack(0, g.refusal, 0, 0)
+    let reading = gauge::handed(g);
+    *pressure = reading.pressure;
+    *row = reading.row;
+    pack(0, number_told(g), 0, 0)
 }
 
 // ---- files
 
 // How many records were read; `out` stays as it is where the file is refused.
-#[tactic(auto, using(crate::proofs::Sets::read))]
 pub fn bz_read(bytes: &[u8], out: &mut [i16]) -> u64
     ensures { FileRead bytes.now out.old out.new result }
 {
-    let a = file::read(bytes, out);
-    match a {
-        Answer::Records(n) => pack(n, 0, 0, 0),
-        Answer::Refused(r) => pack_refusal(r),
+    match file::read(bytes, out) {
+        Ok(n) => pack(n, 0, 0, 0),
+        Err(r) => pack_refusal(r.into()),
     }
 }

@@ -2,7 +2,8 @@
 // segment. Every function here is a test on values; the loops over a chart are the crates above.
 #![tactic(auto)]
 
-ghost use Rattle.std.specs.Prelude.{◌≡◌, ◌-◌, ◌*◌, ◌≤◌, eqb};
+ghost use Rattle.std.specs.Prelude.{◌≡◌, ◌*◌, ◌≤◌, cond, Some, None};
+ghost use Rattle.record.specs.Order.{left};
 ghost use Rattle.plane.specs.Points.{is_segment};
 ghost use Rattle.plane.specs.Turns.{largest_product};
 ghost use Rattle.plane.specs.Touching.{within, splits, touches};
@@ -18,31 +19,40 @@ use record::Record;
 pub fn segment_of(r: Record) -> Segment
     ensures { result ≡ segment r }
 {
-    let d = r.dom;
-    let o = r.other;
     if record::is_left(r) {
-        return Segment { a: d, b: o };
+        Segment {
+            a: r.dom,
+            b: r.other,
+        }
+    } else {
+        Segment {
+            a: r.other,
+            b: r.dom,
+        }
     }
-    Segment { a: o, b: d }
 }
+
+// The segment of a left half, which stands for it; none of a right half, so that each segment is taken once.
+pub fn segment_of_left(r: Record) -> Option<Segment>
+    ensures { result ≡ cond (left r) (Some (segment r)) None }
+{
+    record::is_left(r).then(|| segment_of(r))
+}
+
+// `is_record` and `is_segment` say by name what `==` answers: promises' `same-is-record` and `same-is-segment` are of
+// them.
 
 #[tactic(auto, unfolding(crate::specs::Segments::is_record))]
 pub fn is_record(e: Record, r: Record) -> bool
     ensures { result ≡ is_record e r }
 {
-    points::is_same(r.dom, e.dom) & points::is_same(r.other, e.other) & is_mark(r.mark, e.mark)
+    r == e
 }
 
 pub fn is_segment(s: Segment, t: Segment) -> bool
     ensures { result ≡ is_segment s t }
 {
-    points::is_same(t.a, s.a) & points::is_same(t.b, s.b)
-}
-
-fn is_mark(m: u16, n: u16) -> bool
-    ensures { result ≡ eqb m n }
-{
-    m == n
+    t == s
 }
 
 // ---- a column
@@ -57,14 +67,14 @@ pub fn is_vertical(s: Segment) -> bool
 fn is_covering(x: u16, s: Segment) -> bool
     ensures { result ≡ covers x s }
 {
-    (s.a.x <= x) & (x < s.b.x)
+    s.a.x <= x && x < s.b.x
 }
 
 // Whether s comes to column x from the left.
 fn is_reaching(x: u16, s: Segment) -> bool
     ensures { result ≡ reaches x s }
 {
-    (s.a.x < x) & (x <= s.b.x)
+    s.a.x < x && x <= s.b.x
 }
 
 // ---- a point
@@ -73,7 +83,7 @@ fn is_reaching(x: u16, s: Segment) -> bool
 pub fn is_end(p: Point, s: Segment) -> bool
     ensures { result ≡ ends_at p s }
 {
-    points::is_same(s.a, p) | points::is_same(s.b, p)
+    s.a == p || s.b == p
 }
 
 // Whether p lies inside s, and is none of its ends.
@@ -81,7 +91,7 @@ pub fn is_end(p: Point, s: Segment) -> bool
 fn is_within(s: Segment, p: Point) -> bool
     ensures { result ≡ within s p }
 {
-    points::is_before(s.a, p) & points::is_before(p, s.b) & points::is_straight(s.a, s.b, p)
+    s.a < p && p < s.b && points::is_straight(s.a, s.b, p)
 }
 
 // Whether p lies on s, ends included.
@@ -89,7 +99,7 @@ fn is_within(s: Segment, p: Point) -> bool
 pub fn is_on(p: Point, s: Segment) -> bool
     ensures { result ≡ holds p s }
 {
-    is_end(p, s) | is_within(s, p)
+    is_end(p, s) || is_within(s, p)
 }
 
 // Whether t lies strictly below p, at the column of p.
@@ -97,7 +107,7 @@ pub fn is_on(p: Point, s: Segment) -> bool
 pub fn is_below_point(p: Point, t: Segment) -> bool
     ensures { result ≡ below_point p t }
 {
-    is_covering(p.x, t) & points::turns_left(t.a, t.b, p)
+    is_covering(p.x, t) && points::turns_left(t.a, t.b, p)
 }
 
 // ---- two segments
@@ -107,19 +117,19 @@ pub fn is_below_point(p: Point, t: Segment) -> bool
 fn is_split(s: Segment, t: Segment) -> bool
     ensures { result ≡ splits s t }
 {
-    points::turns_left(s.a, s.b, t.a) & points::turns_right(s.a, s.b, t.b)
-        | points::turns_right(s.a, s.b, t.a) & points::turns_left(s.a, s.b, t.b)
+    points::turns_left(s.a, s.b, t.a) && points::turns_right(s.a, s.b, t.b)
+        || points::turns_right(s.a, s.b, t.a) && points::turns_left(s.a, s.b, t.b)
 }
 
 #[tactic(auto, unfolding(plane::specs::Touching::touches))]
 pub fn is_touching(s: Segment, t: Segment) -> bool
     ensures { result ≡ touches s t }
 {
-    is_split(s, t) & is_split(t, s)
-        | is_within(s, t.a)
-        | is_within(s, t.b)
-        | is_within(t, s.a)
-        | is_within(t, s.b)
+    is_split(s, t) && is_split(t, s)
+        || is_within(s, t.a)
+        || is_within(s, t.b)
+        || is_within(t, s.a)
+        || is_within(t, s.b)
 }
 
 // Whether t is counted for the mark of s.
@@ -128,31 +138,21 @@ pub fn is_counted_for(s: Segment, t: Segment) -> bool
     ensures { result ≡ counted_for s t }
 {
     if is_vertical(s) {
-        return is_reaching(s.a.x, t) & !points::turns_right(t.a, t.b, s.a);
+        return is_reaching(s.a.x, t) && !points::turns_right(t.a, t.b, s.a);
     }
     is_covering(s.a.x, t)
-        & (points::turns_left(t.a, t.b, s.a)
-            | points::is_straight(t.a, t.b, s.a) & !points::turns_left(s.a, s.b, t.b))
+        && (points::turns_left(t.a, t.b, s.a)
+            || points::is_straight(t.a, t.b, s.a) && !points::turns_left(s.a, s.b, t.b))
 }
 
 // ---- which of two is the higher
-
-// How far m lies past n; 0 where it does not.
-fn past(m: u16, n: u16) -> u16
-    ensures { result ≡ m - n }
-{
-    if m < n {
-        return 0;
-    }
-    m - n
-}
 
 // The height of s at column x, times its breadth.
 fn rise_of(x: u16, s: Segment) -> u64
     ensures { Rise x s result }
 {
-    let onward = past(s.b.x, x);
-    let behind = past(x, s.a.x);
+    let onward = s.b.x.saturating_sub(x);
+    let behind = x.saturating_sub(s.a.x);
     points::product(s.a.y, onward) + points::product(s.b.y, behind)
 }
 
@@ -169,7 +169,7 @@ fn level_of(rise: u64, breadth: u16) -> u64
 pub fn is_higher(x: u16, s: Segment, t: Segment) -> bool
     ensures { result ≡ higher x s t }
 {
-    let low = level_of(rise_of(x, t), past(s.b.x, s.a.x));
-    let high = level_of(rise_of(x, s), past(t.b.x, t.a.x));
-    (low < high) | (points::is_same(s.a, t.a) & points::turns_left(t.a, t.b, s.b))
+    let low = level_of(rise_of(x, t), s.b.x.saturating_sub(s.a.x));
+    let high = level_of(rise_of(x, s), t.b.x.saturating_sub(t.a.x));
+    low < high || s.a == t.a && points::turns_left(t.a, t.b, s.b)
 }

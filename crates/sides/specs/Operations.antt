@@ -3,10 +3,13 @@
 --                           as y says lies in the result
 --     joining op            the same of a list of two answers, as combined has it
 --     both a b              the two charts by their records
+--     side_of which a b     the one or the other of two
 -- Assumes nothing.
 use Rattle.std.specs.Prelude.{Bool, false, not, ◌&&◌, ◌||◌, List, [], ◌∷◌, ℤ}
 use Rattle.record.specs.declared.Record.{Record}
 use Rattle.record.specs.Records.{records}
+use Rattle.parts.specs.declared.Which.{Which}
+use Rattle.parts.specs.declared.Which.TheVariants.{First, Second}
 use Rattle.sides.specs.declared.Op.{Op}
 use Rattle.sides.specs.declared.Op.TheVariants.{Union, Intersection, Difference}
 
@@ -22,3 +25,7 @@ joining op (x ∷ y ∷ zs) = joined_by op x y
 
 abbrev pub both : List ℤ → List ℤ → List (List Record)
 both a b = records a ∷ records b ∷ []
+
+abbrev pub side_of : {A : Type 0} → Which → A → A → A
+side_of First a b = a
+side_of Second a b = b

@@ -1,9 +1,7 @@
-use Prim.Native.Nat.{◌-◌}
-use Rattle.cycles.proofs.HalfLaws.{Halving}
+use mathlib.Core.Path.{◌≡◌}
+use lib.ListN.{drop}
+use Rattle.cycles.specs.Steps.{first_half}
 use Rattle.cycles.proofs.first_half.Given as goal
 
-abbrev pub invariant-loop-t : goal.invariant-loop-t
-invariant-loop-t l = Halving l.s l.f l.rest l.k l.m l.least l.t
-
-abbrev pub decreases-loop-t : goal.decreases-loop-t
-decreases-loop-t l = l.m - l.t
+abbrev pub invariant-loop-j : goal.invariant-loop-j
+invariant-loop-j l = first_half l.s l.least (drop l.j-index l.cycle) ≡ first_half l.s l.f l.cycle

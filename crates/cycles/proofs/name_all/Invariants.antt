@@ -1,9 +1,7 @@
-use Prim.Native.Nat.{◌-◌}
-use Rattle.cycles.proofs.WriteLaws.{Naming}
+use mathlib.Core.Path.{◌≡◌}
+use lib.ListN.{drop}
+use Rattle.cycles.specs.Steps.{name_all}
 use Rattle.cycles.proofs.name_all.Given as goal
 
-abbrev pub invariant-loop-t : goal.invariant-loop-t
-invariant-loop-t l = Naming l.s l.v l.rest l.k l.m l.initial.to l.to l.t
-
-abbrev pub decreases-loop-t : goal.decreases-loop-t
-decreases-loop-t l = l.m - l.t
+abbrev pub invariant-loop-j : goal.invariant-loop-j
+invariant-loop-j l = name_all l.s l.v (drop l.j-index l.cycle) l.to ≡ name_all l.s l.v l.cycle l.initial.to

@@ -1,6 +1,6 @@
 use Rattle.std.proofs.Common.{rules}
-use Rattle.file.proofs.FileLaws.{reading}
+use Rattle.file.proofs.FileLaws.{records-read}
 use Rattle.file.proofs.read_records.Goals as goal
 
-pub returns-else-end-bytes : goal.returns-else-end-bytes
-returns-else-end-bytes c = search (rules, reading)
+pub returns : goal.returns
+returns c = search (rules, records-read, c.in_ok-end.was)

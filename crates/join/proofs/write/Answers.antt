@@ -1,12 +1,15 @@
 use Rattle.std.proofs.Common.{rules}
-use Rattle.join.proofs.WriteLaws.{left, writing, fewer-second, writing-second}
+use Rattle.join.proofs.WriteLaws.{writing}
 use Rattle.join.proofs.write.Goals as goal
 
-pub loop-out-init : goal.loop-out-init
-loop-out-init c = search (rules, left, writing, fewer-second, writing-second)
+pub loop-which-init : goal.loop-which-init
+loop-which-init c = search (rules, writing)
 
-pub loop-out-preserved-in-First : goal.loop-out-preserved-in-First
-loop-out-preserved-in-First c = search (rules, writing, fewer-second, writing-second)
+pub loop-which-smaller-in-First : goal.loop-which-smaller-in-First
+loop-which-smaller-in-First c = search (rules, writing)
 
-pub loop-out-preserved : goal.loop-out-preserved
-loop-out-preserved c = search (rules, writing, fewer-second, writing-second)
+pub loop-which-preserved-in-First : goal.loop-which-preserved-in-First
+loop-which-preserved-in-First c = search (rules, writing)
+
+pub loop-which-preserved : goal.loop-which-preserved
+loop-which-preserved c = search (rules, writing)

@@ -1,8 +1,8 @@
 use Rattle.join.proofs.WriteLaws.{Writing, left}
 use Rattle.join.proofs.write.Given as goal
 
-abbrev pub invariant-loop-out : goal.invariant-loop-out
-invariant-loop-out l = Writing l.op l.a l.b l.initial.out l.out l.i l.j l.n
+abbrev pub invariant-loop-which : goal.invariant-loop-which
+invariant-loop-which l = Writing l.pair.op l.pair.a.now l.pair.b.now l.initial.out l.out l.i l.j l.n
 
-abbrev pub decreases-loop-out : goal.decreases-loop-out
-decreases-loop-out l = left l.a l.b l.i l.j
+abbrev pub decreases-loop-which : goal.decreases-loop-which
+decreases-loop-which l = left l.pair.a.now l.pair.b.now l.i l.j

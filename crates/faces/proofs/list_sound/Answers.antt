@@ -1,6 +1,0 @@
-use Rattle.std.proofs.Common.{rules}
-use Rattle.faces.proofs.ListLaws.{listed-both}
-use Rattle.faces.proofs.list_sound.Goals as goal
-
-pub returns : goal.returns
-returns c = search (rules, listed-both)
