@@ -42,8 +42,8 @@ pub fn has_record(s: &[i16], e: Record) -> bool
 
 // ---- a segment, by its left half
 
-// Here and below a line for each test, and no function that is handed it: that one would have to ask, by a `requires`,
-// that the test may be called, and save no line.
+// Here and below a line for each test, and a clause that names it: `is_some_and`, `find`, `any` and `filter` are the
+// functions that are handed one, and one more of our own would save no line.
 fn is_same_half(t: Segment, e: Record) -> bool
     ensures { result ≡ of_segment (is_segment t) e }
 {

@@ -24,6 +24,7 @@ struct Sums {
 // ---- one record
 
 // How far across the segment of a left half goes. A right half counts for nothing, so that each segment is taken once.
+// The difference is taken here, where the segment's order is known, and not in a closure over `segment_of_left`.
 #[tactic(auto, using(crate::proofs::AreaLaws::segment_rises))]
 fn across_of(r: Record) -> u16
     ensures { result ≡ across r }

@@ -74,8 +74,8 @@ fn has_equal_ends(r: Record) -> bool
 }
 
 // This search and those below differ by their test alone. Each is one call of `find`, which is the generic function
-// already: one of our own, handed the test, would have to ask by a `requires` that the test may be called, and each
-// search would still be a call.
+// already, and its clause names its row. A function of our own that is handed the test could name none, and each search
+// would still be a call.
 fn first_equal_ends(s: &[i16]) -> Option<usize>
     ensures { result ≡ first_place equal_ends (record_at s.now) (record_count s.now) }
 {

@@ -15,7 +15,7 @@ use record::WIDTH;
 use std::fmt;
 
 // What the line says of a sound chart.
-#[derive(Clone, Copy)]
+#[derive(Clone, Copy, Debug, PartialEq, Eq)]
 struct Report {
     records: usize,
     faces: usize,

@@ -6,12 +6,11 @@
 --     looking, summing    for a function's tactic line: what closes such a loop
 -- Assumes nothing.
 use Rattle.std.specs.Prelude.{◌≡◌, Bool, true, false, ℕ, ◌+◌, ◌<◌, ◌≤◌}
-use mathlib.Core.Path.{refl, sym, ap, ◌∙◌}
-use native.Mathlib.Numerals.{add-one}
+use mathlib.Core.Path.{refl}
 use native.Mathlib.Omega.{arith}
 use Rattle.counts.specs.Count.{sum, listed}
 use Rattle.counts.specs.Scan.{first_from, Found}
-use Rattle.counts.proofs.ScanLaws.{first_from-end, first_from-hit, first_from-miss, first_from-high}
+use Rattle.counts.proofs.ScanLaws.{first_from-high}
 use Rattle.counts.proofs.LoopLaws.{Seen, seen_none, seen-hit, seen_more, seen_all, sum_more}
 
 module _ {A : Type 0} (p : A → Bool) (f : ℕ → A) {a n i : ℕ} where

@@ -56,7 +56,8 @@ fn is_departing(r: Record) -> bool
     (r.mark == MARKED) == is_left(r)
 }
 
-// The other half of record i. By `few` a record's number is a place of the arrays of Cycles.
+// The other half of record i. By `few` a record's number is a place of the arrays of Cycles. That i is a record of this
+// chart is asked here and below: a type for it would have to carry the chart, and be no plainer.
 #[tactic(auto, using(crate::proofs::Sets::halves), unfolding(walks::specs::Ways::way_back))]
 fn way_back(s: &Chart, i: usize) -> usize
     requires { i < record_count s.now }
@@ -110,7 +111,8 @@ fn visit_of(s: &Chart, p: Point, rest: &[usize]) -> Option<usize>
     rest.iter().position(|&j| is_from(s, p, j))
 }
 
-// The least of f, of the records of the cycle, and of their other halves.
+// The least of f, of the records of the cycle, and of their other halves. `Places`, here and in the two below, is asked
+// of a slice as it is cut: a type around each slice would be no plainer.
 #[tactic(auto, using(crate::proofs::Sets::halving))]
 fn first_half(s: &Chart, f: usize, cycle: &[usize]) -> usize
     requires { Places s.now cycle.now }
@@ -145,7 +147,8 @@ fn name_all(s: &Chart, v: usize, cycle: &[usize], to: &mut [usize; LIMIT])
 }
 
 // The walk that started at w comes to p: where it has departed from p, what it has walked since is a cycle, and no
-// longer part of the rest.
+// longer part of the rest. What is left of a walk and what all walks come to are lent apart: the one is cleared for
+// each walk.
 #[tactic(auto, using(crate::proofs::Sets::cuts))]
 fn cut_at(s: &Chart, p: Point, w: usize, rest: &mut ArrayVec<usize, LIMIT>, cycles: &mut Cycles)
     requires { Places s.now rest.old.items }

@@ -3,7 +3,7 @@ use chart::Refusal;
 use question::Place;
 use std::fmt;
 
-#[derive(Clone, Copy)]
+#[derive(Clone, Copy, Debug, PartialEq, Eq)]
 pub(crate) enum Answer {
     Area(i64),
     Place(Place),

@@ -79,11 +79,10 @@ const LARGE_TRIANGLE: [[i16; 5]; 6] = [
 fn row_of_squares() -> [[i16; 5]; 513] {
     let square = SQUARE;
     let mut row = [[0; 5]; 513];
-    // By its place, which tells how far right each record lies.
-    for i in 0..513 {
+    for (i, record) in row.iter_mut().enumerate() {
         let [x, y, other_x, other_y, mark] = square[i % 8];
         let right = 5 * (i / 8) as i16;
-        row[i] = [
+        *record = [
             x.saturating_add(right),
             y,
             other_x.saturating_add(right),

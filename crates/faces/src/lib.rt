@@ -89,7 +89,7 @@ impl<'a> Cut<'a> {
     }
 
     // Where the walk of record i starts. A reader for each of the two arrays: one that is told which would be no
-    // plainer.
+    // plainer. That i is a record of this chart is asked here and below, as cycles asks it.
     #[tactic(auto, using(crate::proofs::KnownLaws::told))]
     fn start(&self, i: usize) -> usize
         requires { i < record_count self.now }
@@ -182,8 +182,9 @@ impl<'a> Cut<'a> {
     }
 
     // The face of the walk that starts at w: that of its outer cycle; else that of the walk of the segment nearest
-    // below its smallest point, which starts earlier. `faces` goes beside the cut with a clause of its own, and in no
-    // type: while it is being filled it holds the walks before w alone.
+    // below its smallest point, which starts earlier. `faces` goes beside the cut with a clause of its own: here, while
+    // it is being filled, it holds the walks before w alone, and a second type for when it is full would be made in one
+    // place and be no plainer.
     #[tactic(auto, using(crate::proofs::Sets::below))]
     fn face_in_walk(&self, faces: &[usize], w: usize) -> usize
         requires known { WalkFaces self.now w faces.now }

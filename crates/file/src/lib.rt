@@ -91,7 +91,8 @@ fn number_for(k: usize, n: u32) -> Option<i16>
     coordinate_for(n)
 }
 
-// One number for the place k of the array, and the place of the next one in the file.
+// One number for the place k of the array, and the place of the next one in the file. The file and the place go apart,
+// here and in `number`: a refusal names the place in the whole file.
 #[tactic(auto, using(crate::proofs::FieldLaws::fielding))]
 fn field_at(bytes: &[u8], k: usize, at: usize) -> Result<(i16, usize), FileRefusal>
     ensures { result ≡ field_at bytes.now k at }

@@ -127,7 +127,7 @@ fn is_sound(card: Card) -> bool
     }
 }
 
-// A card that keeps the rules.
+// A card that keeps the rules; it is never compared.
 #[derive(Clone, Copy)]
 struct SoundCard {
     card: Card,

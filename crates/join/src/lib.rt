@@ -158,7 +158,8 @@ fn is_touched_in(b: &[i16], r: Record) -> bool
     among::is_touched(b, segment_of(r))
 }
 
-// The first record of the first chart whose segment touches one of the second.
+// The first record of the first chart whose segment touches one of the second: a call of `find`, as chart's searches
+// are.
 fn first_touching(a: &[i16], b: &[i16]) -> Option<usize>
     ensures { result ≡ first_place (touches_in b.now) (record_at a.now) (record_count a.now) }
 {

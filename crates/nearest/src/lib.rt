@@ -26,6 +26,7 @@ fn is_higher_below(p: Point, t: Segment, e: Record) -> bool
     question::is_below(p, e) && segment::is_higher(p.x, segment::segment_of(e), t)
 }
 
+// The first that is counted: a call of `find`, whose clause names its test, as chart's searches are.
 fn first_below(s: &[i16], p: Point) -> Option<usize>
     ensures { result ≡ first_place (counted p) (record_at s.now) (record_count s.now) }
 {
@@ -74,7 +75,8 @@ pub fn nearest_below(chart: &[i16], x: i16, y: i16) -> Result<Option<usize>, Cha
 
 // ---- where a point lies, by the mark of the nearest below
 
-// What `is_odd_below` answers, without the count.
+// What `is_odd_below` answers, without the count. By `highest_below` itself: of `nearest_of`'s Option, by `is_some_and`
+// or by a `match`, the proof did not close.
 #[tactic(auto, using(crate::proofs::Sets::marked), unfolding(grid::specs::Coordinates::up))]
 fn is_marked_below(chart: &Chart, p: Point) -> bool
     ensures { result ≡ odd (below (records chart.now) p) }

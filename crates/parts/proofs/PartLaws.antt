@@ -8,24 +8,17 @@
 --     run_rises, run_short      the two halves of that, for a function that cuts by the run
 --     whole                     for a function's tactic line: first-whole, second-whole
 -- Assumes nothing.
-use mathlib.Core.Path.{◌≡◌, refl, sym, ap, ◌∙◌, subst}
+use mathlib.Core.Path.{◌≡◌, refl, sym, ap, subst}
 use mathlib.Core.Logic.{◌⊎◌, inl, inr}
 use mathlib.Core.Bool.{Bool, true, false, cond}
 use mathlib.Core.List.{List}
-use Prim.Native.Nat.{ℕ, ◌+◌, ◌-◌, ◌*◌, ◌<◌, ◌≤◌, zero-le}
+use Prim.Native.Nat.{ℕ, ◌*◌, ◌<◌, ◌≤◌, zero-le}
 use native.Mathlib.Omega.{arith}
 use lib.IntN.{ℤ}
 use lib.ListN.{length}
-use lib.Dec.{ltb}
-use borrow.Author.Tests.{leb-true, lt-leb, le-leb, lt-ltb, le-ltb, ltb-false}
-use Rattle.std.specs.Prelude.{Option, Some, None, max}
-use Rattle.std.specs.Option.{unwrap_or}
-use Rattle.counts.specs.Count.{first_index, listed}
-use Rattle.counts.specs.Scan.{first_from, first_place}
-use Rattle.counts.proofs.FirstLaws.{first_index-most}
-use Rattle.counts.proofs.ListedLaws.{listed-length}
-use Rattle.counts.proofs.PlaceLaws.{find_from, first_place_some, first_place_none}
-use Rattle.counts.proofs.StepLaws.{first_high}
+use borrow.Author.Tests.{leb-true, lt-leb, le-leb, lt-ltb, le-ltb}
+use Rattle.std.specs.Prelude.{Option, Some, None}
+use Rattle.counts.specs.Scan.{first_from}
 use Rattle.counts.proofs.TestLaws.{and-true, lt-or-le}
 use Rattle.counts.proofs.ScanLaws.{first_from-low, first_from-high}
 use Rattle.plane.specs.declared.Point.{Point}

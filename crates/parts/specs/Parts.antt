@@ -16,8 +16,7 @@
 --                        first array's beginning
 -- These ask nothing of the array: it need be no chart. Assumes nothing.
 use Rattle.std.specs.Prelude.{◌≡◌, Bool, not, cond, ◌&&◌, ◌||◌, List, ℕ, ◌+◌, ◌-◌, ◌*◌, ltb, leb, ℤ, length, take, drop}
-use Rattle.std.specs.Prelude.{Option, Some, None, find}
-use Rattle.std.specs.List.{range_with_len}
+use Rattle.std.specs.Prelude.{Option, Some, None}
 use Rattle.std.specs.Borrow.{Bor}
 use Rattle.counts.specs.Scan.{first_from}
 use Rattle.plane.specs.declared.Point.{Point}

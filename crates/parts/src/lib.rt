@@ -18,7 +18,8 @@ pub struct Span {
 }
 
 impl Span {
-    // The empty part, at the array's beginning.
+    // The empty part, at the array's beginning: what `run_of` and `corner_of` promise where there is no run, or no
+    // chart.
     pub const NOWHERE: Span = Span { from: 0, upto: 0 };
 }
 
@@ -45,6 +46,7 @@ pub fn is_elsewhere(s: &[i16], p: Point, i: usize) -> bool
     !is_there(s, p, i)
 }
 
+// The first record at p: a call of `find`, whose clause names its test.
 fn first_there(s: &[i16], p: Point) -> Option<usize>
     ensures { result ≡ first_place (at_corner p) (record_at s.now) (record_count s.now) }
 {

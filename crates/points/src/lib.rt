@@ -23,7 +23,7 @@ pub fn is_same(p: Point, q: Point) -> bool
     p == q
 }
 
-// ---- three points
+// ---- three points, which callers take from different segments, so that no type holds them
 
 #[derive(Clone, Copy, Debug, PartialEq, Eq)]
 pub enum Turn {

@@ -25,6 +25,7 @@ fn main() {
 
 // ---- reading
 
+// How much of the input a question takes is known from the question itself, so no iterator gives them.
 fn answer_all(bytes: &[u8]) {
     let mut rest = bytes;
     while let [low, high, points, after @ ..] = rest {

@@ -27,6 +27,7 @@ pub enum Place {
 
 // ---- where a point lies
 
+// A line for each test and each chain, whose clause names it, as in `among`.
 fn is_held(p: Point, e: Record) -> bool
     ensures { result ≡ of_segment (holds p) e }
 {
@@ -81,7 +82,7 @@ pub fn place_by(edge: bool, inner: bool) -> Place
     }
 }
 
-// Whether a point lies inside the chart, outside it or on its edge.
+// Whether a point lies inside the chart, outside it or on its edge. Chart, x and y are what C passes, here and below.
 #[tactic(auto, unfolding(crate::specs::Places::placed, crate::specs::Places::place_of))]
 pub fn point(chart: &[i16], x: i16, y: i16) -> Result<Place, ChartRefusal>
     ensures { result ≡ placed chart.now (point_of x y) }

@@ -37,7 +37,8 @@ pub fn record_count(s: &[i16]) -> usize
     s.len() / WIDTH
 }
 
-// Number k of record i. It reads as 0 where it is missing: past the end, and past what is left over there.
+// Number k of record i. It reads as 0 where it is missing: past the end, and past what is left over there. No `get`:
+// which number that is need not fit, of a record so far past the end.
 fn number_of(s: &[i16], i: usize, k: usize) -> i16
     requires { k < width }
     ensures { result ≡ get_or s.now (width * i + k) (pos 0) }

@@ -48,7 +48,7 @@ fn pack_refusal(r: Refusal) -> u64
     pack(r.index, r.number, 0, 0)
 }
 
-// Outside is kind 0, Inside 1, Edge 2.
+// To C, Outside is kind 0, Inside 1, Edge 2.
 fn pack_place(a: Result<Place, ChartRefusal>) -> u64
     requires { (refusal_of a).index < 2 ^ 32 }
     ensures { result ≡ point_answer a }
@@ -176,7 +176,8 @@ pub fn bz_difference(a: &[i16], b: &[i16], out: &mut [i16]) -> u64
 
 // ---- gauges
 
-// What the card of a kind gives: 0 is a spring, of a rate and a pin, and 1 a bridge, of a gain and a zero.
+// What the card of a kind gives, as C numbers them: 0 is a spring, of a rate and a pin, and 1 a bridge, of a gain and a
+// zero.
 fn gauged(kind: u8, first: f64, second: f64, sample: i16) -> Result<Reading, GaugeRefusal>
     ensures { KindGauges kind first second sample (refusal_number result) (handed result).pressure (handed result).row }
 {

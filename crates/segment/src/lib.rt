@@ -70,7 +70,7 @@ fn is_covering(x: u16, s: Segment) -> bool
     s.a.x <= x && x < s.b.x
 }
 
-// Whether s comes to column x from the left.
+// Whether s comes to column x from the left: a line of its own, told apart by its ends.
 fn is_reaching(x: u16, s: Segment) -> bool
     ensures { result ≡ reaches x s }
 {
