@@ -38,7 +38,8 @@ impl fmt::Display for Report {
     }
 }
 
-// A line that standard output does not take is lost, and the program ends with status 0 as ever.
+// A line that standard output does not take is lost, and the program ends with status 0 as ever. Here and below memory
+// is fixed: no question can end for want of it.
 fn main(rt: HostRuntime) {
     let mut bytes = [0u8; 8192];
     let n = io::read_full(0, &mut bytes);

@@ -17,6 +17,7 @@ use question::Place;
 // The most numbers of a chart that is asked about.
 const NUMBERS: usize = 4096;
 
+// Memory is fixed, here and below.
 fn main() {
     let mut bytes = [0u8; 65536];
     let n = io::read_full(0, &mut bytes);
