@@ -15,3 +15,4 @@ pub mod Gauges
 pub mod Files
 pub mod Boundary
 pub mod BoundaryQuestions
+pub mod Tests
