@@ -70,7 +70,7 @@ impl From<ChartRefusal> for Refusal {
 fn has_equal_ends(r: Record) -> bool
     ensures { result ≡ equal_ends r }
 {
-    r.dom == r.other
+    points::is_same(r.dom, r.other)
 }
 
 // This search and those below differ by their test alone. Each is one call of `find`, which is the generic function

@@ -101,7 +101,7 @@ fn next_of(s: &Chart, i: usize) -> usize
 fn is_from(s: &Chart, p: Point, j: usize) -> bool
     ensures { result ≡ from s.now p j }
 {
-    record_of(s, j).dom == p
+    points::is_same(record_of(s, j).dom, p)
 }
 
 // The place, among the records that are left of a walk, of the one that departs from p.

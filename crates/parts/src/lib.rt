@@ -36,7 +36,7 @@ pub enum Which {
 fn is_there(s: &[i16], p: Point, i: usize) -> bool
     ensures { result ≡ at_corner p (record_at s.now i) }
 {
-    record_at(s, i).dom == p
+    points::is_same(record_at(s, i).dom, p)
 }
 
 // Whether record i is not at p.

@@ -9,7 +9,8 @@ ghost use Rattle.points.specs.Turning.{Product, TurnSum, turn_of};
 use plane::Point;
 use std::cmp::Ordering;
 
-// ---- two points: by name what `<` and `==` answer, for promises' `same-is-before` and `same-is-same` are of these
+// ---- two points: by name what `<` and `==` answer. Every comparison of two points, in the crates above, is by these, of
+// which promises' `same-is-before` and `same-is-same` are.
 
 pub fn is_before(p: Point, q: Point) -> bool
     ensures { result ≡ before p q }

@@ -74,7 +74,7 @@ pub fn record_at(s: &[i16], i: usize) -> Record
 pub fn is_left(r: Record) -> bool
     ensures { result ≡ left r }
 {
-    r.dom < r.other
+    points::is_before(r.dom, r.other)
 }
 
 pub fn other_half(r: Record) -> Record

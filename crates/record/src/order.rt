@@ -41,5 +41,5 @@ fn is_earlier_here(r: Record, e: Record) -> bool
 pub fn is_earlier(r: Record, e: Record) -> bool
     ensures { result ≡ precedes r e }
 {
-    r.dom < e.dom || r.dom == e.dom && is_earlier_here(r, e)
+    points::is_before(r.dom, e.dom) || points::is_same(r.dom, e.dom) && is_earlier_here(r, e)
 }

@@ -83,7 +83,7 @@ fn is_reaching(x: u16, s: Segment) -> bool
 pub fn is_end(p: Point, s: Segment) -> bool
     ensures { result ≡ ends_at p s }
 {
-    s.a == p || s.b == p
+    points::is_same(s.a, p) || points::is_same(s.b, p)
 }
 
 // Whether p lies inside s, and is none of its ends.
@@ -91,7 +91,7 @@ pub fn is_end(p: Point, s: Segment) -> bool
 fn is_within(s: Segment, p: Point) -> bool
     ensures { result ≡ within s p }
 {
-    s.a < p && p < s.b && points::is_straight(s.a, s.b, p)
+    points::is_before(s.a, p) && points::is_before(p, s.b) && points::is_straight(s.a, s.b, p)
 }
 
 // Whether p lies on s, ends included.
@@ -171,5 +171,5 @@ pub fn is_higher(x: u16, s: Segment, t: Segment) -> bool
 {
     let low = level_of(rise_of(x, t), s.b.x.saturating_sub(s.a.x));
     let high = level_of(rise_of(x, s), t.b.x.saturating_sub(t.a.x));
-    low < high || s.a == t.a && points::turns_left(t.a, t.b, s.b)
+    low < high || points::is_same(s.a, t.a) && points::turns_left(t.a, t.b, s.b)
 }

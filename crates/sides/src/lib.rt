@@ -87,14 +87,14 @@ impl<'a> Pair<'a> {
         upper != lower
     }
 
-    // Whether a record of the one chart is kept; of the second chart only what the first has not.
-    #[tactic(auto, unfolding(crate::specs::Kept::kept_second, crate::specs::Kept::kept_first))]
+    // Whether a record of the one chart is kept.
     pub fn is_kept(self, which: Which, r: Record) -> bool
         ensures { result ≡ kept_of which self.entry.op self.entry.a.now self.entry.b.now r }
     {
-        let t = segment_of(r);
-        let had = which == Which::Second && has_segment(self.a, t);
-        !had && self.is_edge(t)
+        match which {
+            Which::First => is_kept_first(self.op, self.a, self.b, r),
+            Which::Second => is_kept_second(self.op, self.a, self.b, r),
+        }
     }
 
     // The mark of t in the result.
@@ -109,39 +109,40 @@ impl<'a> Pair<'a> {
     }
 
     // The record as it stands in the result.
-    #[tactic(auto, unfolding(crate::specs::Kept::side_marked))]
     pub fn marked_afresh(self, r: Record) -> Record
         ensures { result ≡ side_marked self.entry.op self.entry.a.now self.entry.b.now r }
     {
-        Record {
-            mark: self.mark_of(segment_of(r)),
-            ..r
-        }
+        marked_afresh(self.op, self.a, self.b, r)
     }
 }
 
-// ---- the same of arrays by themselves
-
-// These stay beside `Pair`'s methods: the theorems `same-is-kept-first`, `same-is-kept-second` and `same-marked-afresh`
-// are of them.
+// ---- the records of arrays by themselves: `Pair`'s methods go through these, of which the theorems
+// `same-is-kept-first`, `same-is-kept-second` and `same-marked-afresh` are
 
 // Whether a record of the first chart is kept.
+#[tactic(auto, unfolding(crate::specs::Kept::kept_first))]
 pub fn is_kept_first(op: Op, a: &[i16], b: &[i16], r: Record) -> bool
     ensures { result ≡ kept_first op a.now b.now r }
 {
-    Pair { op, a, b }.is_kept(Which::First, r)
+    Pair { op, a, b }.is_edge(segment_of(r))
 }
 
 // Of the second chart only what the first has not.
+#[tactic(auto, unfolding(crate::specs::Kept::kept_second, crate::specs::Kept::kept_first))]
 pub fn is_kept_second(op: Op, a: &[i16], b: &[i16], r: Record) -> bool
     ensures { result ≡ kept_second op a.now b.now r }
 {
-    Pair { op, a, b }.is_kept(Which::Second, r)
+    let t = segment_of(r);
+    !has_segment(a, t) && Pair { op, a, b }.is_edge(t)
 }
 
 // The record as it stands in the result.
+#[tactic(auto, unfolding(crate::specs::Kept::side_marked))]
 pub fn marked_afresh(op: Op, a: &[i16], b: &[i16], r: Record) -> Record
     ensures { result ≡ side_marked op a.now b.now r }
 {
-    Pair { op, a, b }.marked_afresh(r)
+    Record {
+        mark: Pair { op, a, b }.mark_of(segment_of(r)),
+        ..r
+    }
 }
