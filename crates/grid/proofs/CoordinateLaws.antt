@@ -1,6 +1,7 @@
 -- Laws of coordinates and their counts (specs/Coordinates.antt), over the signed numbers.
 --     on_grid-fits, fits-on_grid  a coordinate is a number whose magnitude is below 32,768, as the language sees it
 --     located-low, located-high    a number past an end, or past any bound beyond it, is None
+--     located-on, on_fits          any other is the coordinate
 --     up_small            a count is below 65,536
 --     up-sum              it is the number and 32,768
 --     down-up, up-down    each way is the other's inverse
@@ -8,17 +9,17 @@
 --     up-difference       and every difference, so directions and determinants are the same counted or signed
 -- Assumes nothing.
 use mathlib.Core.Path.{◌≡◌, refl, sym, ap, ap₂, ◌∙◌}
-use mathlib.Core.Bool.{Bool, true, false, cond, true≢false}
+use mathlib.Core.Bool.{Bool, true, false, not, cond, ◌&&◌, true≢false}
 use Prim.Native.Nat.{ℕ, suc, ◌+◌, ◌-◌, ◌<◌, ◌≤◌}
 use native.Mathlib.Omega.{arith}
 use lib.Dec.{ltb}
 use lib.IntN.{ℤ, pos, negsuc, ◌+ℤ◌, ◌-ℤ◌}
 use lib.Signed.{mag, lt_z, le_z}
 use borrow.Author.Tests.{leb-true, ltb-true, lt-ltb, le-ltb, le-leb, lt-leb}
-use Rattle.counts.proofs.TestLaws.{tests, and-true, and_comm, same_test}
+use Rattle.counts.proofs.TestLaws.{tests, and-true, and_comm, same_test, leb-not}
 use Rattle.plane.proofs.DifferenceLaws.{diff-same, diff-sub}
 use Rattle.grid.specs.Coordinates.{on_grid, located, up, down}
-use Rattle.std.specs.Prelude.{None}
+use Rattle.std.specs.Prelude.{Some, None}
 
 pub on_grid-fits : (z : ℤ) → on_grid z ≡ true → mag z < 32768
 on_grid-fits (pos n) e = omega (arith, leb-true n 32767 e)
@@ -29,6 +30,15 @@ fits-on_grid (pos n) h = le-leb n 32767 (omega arith)
 fits-on_grid (negsuc n) h = rw (le-leb n 32767 (omega arith))
 
 -- ---- a wider number
+
+-- at or above the lower end exactly if not below it, and so for the upper end
+not_low : (z : ℤ) → le_z (negsuc 32767) z ≡ not (lt_z z (negsuc 32767))
+not_low (pos n) = refl
+not_low (negsuc n) = leb-not n 32767
+
+not-high : (z : ℤ) → le_z z (pos 32767) ≡ not (lt_z (pos 32767) z)
+not-high (pos n) = leb-not n 32767
+not-high (negsuc n) = refl
 
 -- a number past a bound that is no nearer than the grid's end is off the grid
 past-low : (z : ℤ) (k : ℕ) → 32767 ≤ k → lt_z z (negsuc k) ≡ true → le_z (negsuc 32767) z ≡ false
@@ -47,6 +57,13 @@ module _ (z : ℤ) where
   pub located-high : (k : ℕ) → 32767 ≤ k → lt_z (pos k) z ≡ true → None ≡ located z
   unfolding located
   located-high k h e = rw (past-high z k h e, and_comm (le_z (negsuc 32767) z) false)
+
+  pub located-on : lt_z z (negsuc 32767) ≡ false → lt_z (pos 32767) z ≡ false → Some (record { v = z }) ≡ located z
+  unfolding located
+  located-on e g = rw (not_low z, e, not-high z, g)
+
+  pub on_fits : lt_z z (negsuc 32767) ≡ false → lt_z (pos 32767) z ≡ false → mag z < 32768
+  on_fits e g = on_grid-fits z (ap₂ ◌&&◌ (not_low z ∙ ap not e) (not-high z ∙ ap not g))
 
 -- ---- counts
 

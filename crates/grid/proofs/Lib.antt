@@ -1,3 +1,4 @@
 pub mod CoordinateLaws
 pub mod SignedLaws
 pub mod CastLaws
+pub mod TurnedLaws

@@ -1,5 +1,5 @@
 -- Laws of the parts that are handed back (specs/Parts.antt), case by case as a program finds them.
---     from_second-alone, from_second-both  by which arrays have a whole record
+--     from_second-short, from_second-alone, from_second-both  by which arrays have a whole record
 --     from_second-whole        the second array's head is there if it is the smaller
 --     head_of-second, head_of-neither, head_of-first         which array holds the smaller head, in each case
 --     first-whole, second-whole                              and that it has a whole record
@@ -36,6 +36,10 @@ Within s a = (a.from ≤ a.upto) × (a.upto ≤ length s)
 -- ---- the smaller head
 
 module _ (a b : List ℤ) where
+  pub from_second-short : length b < width → from_second a b ≡ false
+  unfolding from_second
+  from_second-short l = rw (lt-leb width (length b) l)
+
   pub from_second-alone : width ≤ length b → length a < width → from_second a b ≡ true
   unfolding from_second
   from_second-alone l h = rw (le-leb width (length b) l, lt-leb width (length a) h)
