@@ -2,6 +2,8 @@
 --     segment-across     a segment's second end is no further left than its first
 --     share-is           what a record adds is its gain less its loss
 --     twice_area-is      so twice the area is the gains less the losses
+--     gain-marked, gain-plain, loss-marked, loss-plain     the gain and the loss, by the mark
+--     area_of-accepted, area_of-refused    the answer in each case of the verdict
 --     area_of-refusal    the chart's refusal is given first, and none where it is answered
 --     segment_rises, gains_less_losses     for functions' tactic lines
 -- Assumes nothing.
@@ -12,6 +14,7 @@ use mathlib.Core.List.{List, [], ◌∷◌}
 use Prim.Native.Nat.{ℕ, ◌+◌, ◌*◌, ◌≤◌, ◌<◌}
 use native.Mathlib.Omega.{arith}
 use lib.Dec.{eqb}
+use borrow.Author.Tests.{eq-eqb, ne_eqb}
 use lib.IntN.{ℤ, pos, neg_ℤ, ◌+ℤ◌, ◌*ℤ◌}
 use Rattle.counts.specs.Count.{sum}
 use Rattle.counts.proofs.TestLaws.{lt-or-le}
@@ -24,9 +27,11 @@ use Rattle.record.specs.Records.{records, marked}
 use Rattle.record.specs.Order.{left}
 use Rattle.segment.specs.Segments.{segment}
 use Rattle.chart.specs.Verdicts.{refusal_of, verdict}
+use Rattle.std.specs.Prelude.{Ok, Err}
+use Rattle.chart.specs.declared.ChartRefusal.{ChartRefusal}
 use Rattle.chart.proofs.RegionLaws.{answered-refusal}
 use Rattle.area.specs.Areas.{total, share, twice_area, area_of}
-use Rattle.area.specs.Sums.{ground, strip, gain, loss}
+use Rattle.area.specs.Sums.{ground, across, strip, gain, loss, Term}
 
 -- ---- one record
 
@@ -69,6 +74,24 @@ pub share-is : (r : Record) → share r ≡ diff (gain r) (loss r)
 unfolding share gain loss
 share-is r = share-by (left r) (eqb r.mark marked) (breadth (segment r)) r.dom.y r.other.y
 
+-- what a program finds, by the mark, is the gain and the loss
+module _ (r : Record) {w m : ℕ} (e : w ≡ across r) where
+  pub gain-marked : r.mark ≡ marked → Term (strip w ground ground) m → Term (gain r) m
+  unfolding gain
+  gain-marked h s = rw (eq-eqb r.mark marked h, sym e) s
+
+  pub gain-plain : (r.mark ≡ marked → ⊥) → Term (strip w r.dom.y r.other.y) m → Term (gain r) m
+  unfolding gain
+  gain-plain h s = rw (ne_eqb r.mark marked h, sym e) s
+
+  pub loss-marked : r.mark ≡ marked → Term (strip w r.dom.y r.other.y) m → Term (loss r) m
+  unfolding loss
+  loss-marked h s = rw (eq-eqb r.mark marked h, sym e) s
+
+  pub loss-plain : (r.mark ≡ marked → ⊥) → Term (strip w ground ground) m → Term (loss r) m
+  unfolding loss
+  loss-plain h s = rw (ne_eqb r.mark marked h, sym e) s
+
 -- ---- all of them
 
 pub twice_area-is : (rs : List Record) → twice_area rs ≡ diff (sum gain rs) (sum loss rs)
@@ -78,6 +101,15 @@ twice_area-is (r ∷ rs) =
     ap₂ ◌+ℤ◌ (share-is r) (twice_area-is rs) ∙ diff-add (gain r) (loss r) (sum gain rs) (sum loss rs)
 
 -- ---- the answer
+
+module _ (s : List ℤ) where
+  pub area_of-accepted : verdict s ≡ Ok tt → area_of s ≡ Ok (twice_area (records s))
+  unfolding area_of
+  area_of-accepted e = rw e refl
+
+  pub area_of-refused : (r : ChartRefusal) → verdict s ≡ Err r → area_of s ≡ Err r
+  unfolding area_of
+  area_of-refused r e = rw e refl
 
 pub area_of-refusal : (s : List ℤ) → refusal_of (area_of s) ≡ refusal_of (verdict s)
 unfolding area_of

@@ -1,3 +1,4 @@
+pub mod CaseLaws
 pub mod RowLaws
 pub mod HalvesLaws
 pub mod VerdictLaws
