@@ -3,9 +3,9 @@
 --                         `rest` is left of them; for the cycles so far the numbers are written
 --     cutting-places      what is left are records
 --     cut                 the walk so far, as the crate walks has it
---     starts-are, firsts-are     what is written once it is cut at p
+--     left_is, starts-are, firsts-are      what is left of it and what is written once it is cut at p
 -- Assumes nothing.
-use mathlib.Core.Path.{◌≡◌, ap, ◌∙◌}
+use mathlib.Core.Path.{◌≡◌, sym, ap, ◌∙◌}
 use mathlib.Core.List.{List}
 use Prim.Native.Nat.{ℕ, ◌-◌, ◌≤◌, ◌<◌}
 use lib.IntN.{ℤ}
@@ -16,7 +16,7 @@ use Rattle.record.specs.Records.{record_count}
 use Rattle.chart.specs.Verdicts.{limit}
 use Rattle.walks.specs.Walks.{from, onward, walk, Cut, cut_at, walk_all, uncut}
 use Rattle.cycles.specs.Steps.{Places, firsts_of, starts_of, name_all, name_first, CutTo}
-use Rattle.cycles.proofs.CutLaws.{cut-starts, cut-firsts}
+use Rattle.cycles.proofs.CutLaws.{cut-rest, cut-starts, cut-firsts}
 
 pub record Cutting (s : List ℤ) (w : ℕ) (starts firsts starts' firsts' rest : List ℕ) (j k : ℕ) : Type 0 where
   pub cycles : List (List ℕ)
@@ -42,6 +42,10 @@ module _ {s : List ℤ} {w : ℕ} {starts firsts starts' firsts' rest : List ℕ
       (to : CutTo s p w rest starts' firsts' rest' starts'' firsts'') where
     abbrev visit : ℕ
     visit = first_index (from s p) rest
+
+    pub left_is : rest' ≡ (cut_at s p cut).rest
+    unfolding cut
+    left_is = to.left ∙ sym (cut-rest s p cut)
 
     pub starts-are : starts'' ≡ starts_of s w (cut_at s p cut).cycles starts
     unfolding cut

@@ -1,10 +1,14 @@
--- The records of a file, by what the code has seen of them. A law for each return of `read_records`; `reading` has them
--- all.
+-- The records of a file, by what the code has seen of them. A law for each return of `read_records`; `reading` has
+-- those. And a whole file, by its count: a law for each return of `read`. A bound k is any that refuses no more, so that
+-- a wrong one is refused for what it lets through.
 --     end_of-taken     numbers that end somewhere can all be taken
 --     fields-length    and are as many as were asked for
 --     records-left-over    bytes are left over after them
 --     records-refused      one of them is refused
 --     records-read         they are read into the lent array
+--     file-refused         there is no count
+--     file-above, file-short     it is above the limit, or above what there is room for
+--     file-records         else the records that follow it decide
 -- Assumes nothing.
 use mathlib.Core.Path.{◌≡◌, refl, sym, ap, ◌∙◌}
 use mathlib.Core.Bool.{true, true≢false}
@@ -17,10 +21,13 @@ use lib.ListN.{length}
 use Rattle.record.specs.Records.{width}
 use Rattle.std.specs.Prelude.{Result, Ok, Err}
 use Rattle.file.specs.declared.FileRefusal.{FileRefusal}
-use Rattle.file.specs.declared.FileRefusal.TheVariants.{LeftOver}
+use Rattle.file.specs.declared.FileRefusal.TheVariants.{NoNumber, LeftOver, TooMany, NoRoom}
+use Rattle.chart.specs.Verdicts.{limit}
+use Rattle.number.specs.declared.NumberRefusal.{NumberRefusal}
+use Rattle.number.specs.Numbers.{Number, got, number_at}
 use Rattle.file.specs.Fields.{Field, field_at}
-use Rattle.file.specs.Files.{Taken, taken, refused, onto, after, fields, records_of}
-use Rattle.file.specs.Answers.{Answer, answer_of, contents, Gives}
+use Rattle.file.specs.Files.{Taken, taken, refused, onto, after, fields, records_of, file_of}
+use Rattle.file.specs.Answers.{Answer, answer_of, contents, Gives, Reads}
 use Rattle.file.specs.Steps.{is_taken, end_of}
 
 -- ---- how many
@@ -84,5 +91,27 @@ module _ (s : List ℕ) (n from : ℕ) (lent : List ℤ) {e : Result ℕ FileRef
       let long = rw whole at (fields-length s 0 (width * n) from (end_of-taken t is h)) in
       rw (whole, le-ltb at (length s) over)
       (record { says = ap Ok (omega (arith, long)); leaves = rw whole at w })
+
+-- ---- the file
+
+module _ (s : List ℕ) (lent : List ℤ) {c : Number} (is : c ≡ number_at s 0) where
+  pub file-refused : {r : NumberRefusal} → c ≡ Err r → Reads s lent lent (Err (NoNumber r))
+  unfolding file_of
+  file-refused h = rw (← is, h) (record { says = refl; leaves = refl })
+
+  module _ {n next : ℕ} (h : c ≡ got n next) {a : Answer} where
+    pub file-above : (k : ℕ) → limit ≤ k → k < n → a ≡ answer_of (refused TooMany) → Reads s lent lent a
+    unfolding file_of
+    file-above k l g e = rw (← is, h, lt-ltb limit n (omega arith)) (record { says = e; leaves = refl })
+
+    pub file-short : n ≤ limit → length lent < width * n → a ≡ answer_of (refused NoRoom) → Reads s lent lent a
+    unfolding file_of
+    file-short l m e =
+        rw (← is, h, le-ltb limit n l, lt-ltb (length lent) (width * n) m) (record { says = e; leaves = refl })
+
+    pub file-records : {out : List ℤ} → n ≤ limit → width * n ≤ length lent → Gives (records_of s n next) lent out a
+        → Reads s lent out a
+    unfolding file_of
+    file-records l m e = rw (← is, h, le-ltb limit n l, le-ltb (length lent) (width * n) m) e
 
 pub ruleset reading = (end_of-taken, records-left-over, records-refused, records-read)
