@@ -2,7 +2,7 @@
 --     Filling s lent faces w      the array that was `lent` is now `faces`: it has those of the walks that start before
 --                                 record w
 --     fill_none, fill_start, fill_other, fill_all     from record to record
---     cycle_face                  the face of a cycle: that of its walk
+--     cycle_start, cycle_face     the face of a cycle: that of its walk, which the array has
 -- Assumes nothing.
 use mathlib.Core.Path.{◌≡◌, refl, sym, ap, ◌∙◌}
 use mathlib.Core.List.{List}
@@ -20,6 +20,8 @@ use Rattle.chart.specs.Regions.{Region}
 use Rattle.walks.specs.Cycles.{start_of}
 use Rattle.walks.specs.Faces.{first_outer, face_count, face_of}
 use Rattle.faces.specs.Steps.{WalkFaces, Numbered}
+use Rattle.faces.specs.Known.{Known}
+use Rattle.faces.proofs.KnownLaws.{known_region}
 use Rattle.walks.proofs.StartLaws.{start-less, start-start}
 use Rattle.walks.proofs.FaceLaws.{face-walk, face-less}
 
@@ -70,6 +72,11 @@ module _ {s : List ℤ} {lent faces : List ℕ} {w : ℕ} (so_far : Filling s le
       go u h k at (more g) = absurd (omega arith)
 
 -- ---- reading
+
+pub cycle_start : {s : List ℤ} {starts firsts faces : List ℕ} → Known s starts firsts
+    → WalkFaces s (record_count s) faces → {i : ℕ} → i < record_count s → get_or starts i 0 < length faces
+cycle_start known done {i} l =
+    omega (arith, known.start i l, start-less (known_region known) i l, done.room)
 
 pub cycle_face : {s : List ℤ} {faces : List ℕ} {i v : ℕ} → Region s → WalkFaces s (record_count s) faces
     → i < record_count s → v ≡ start_of s i → Numbered s (face_of s i) (get_or faces v 0)
