@@ -1,17 +1,19 @@
 -- From the rules to a reading: what each return of `read_sample`, and each test on its way, has shown.
 --     spring-rules, bridge-rules    what a sound card is
 --     own-units           a float that is exactly z 256ths is exactly its own, and these are z
+--     at-pin, never-pin   the test on the pin is 22's
 --     pressure-whole      a pressure of a sound card is whole, and small enough to be cast
---     row-of-pressure     its row
+--     row-of-pressure, grid-of-pressure    its row, and whether that is on the grid
 --     refusal_21, zero_held, zero_value    what is promised of a card that breaks a rule, a law for each field;
 --                         `broken` has them all, for the line of tactics at `read_sample`
+--     return-21           so the card breaks a rule
 --     return-22, return-23, return_read    the three returns by a sound card
 --     sampled-one, gauges-one    a card and a sample have one answer
 --     gauges-number       its pressure is no NaN
 -- Assumes nothing.
-use Rattle.std.proofs.Common.{◌≡◌, ℕ, ◌^◌, ◌<◌, Bool, true, false, cond, not, T, eqb, ℤ, pos, ◌*ℤ◌, nat_abs, sym, refl}
+use Rattle.std.proofs.Common.{◌≡◌, ℕ, ◌^◌, ◌<◌, Bool, true, false, cond, not, ◌||◌, T, eqb, ℤ, pos, ◌*ℤ◌, nat_abs, sym, refl}
 use Rattle.std.proofs.Common.{ap, ◌∙◌, subst, true≢false, arith}
-use lib.Signed.{mag}
+use lib.Signed.{mag, lt_z, le_z}
 use lib.Ieee.{Float, nan, inf, fin, is_nan}
 use Rattle.counts.proofs.TestLaws.{and-true}
 use Rattle.grid.specs.declared.Coord.{Coord}
@@ -49,6 +51,17 @@ module _ {c : Card} {a b : Float} where
 pub own-units : {p : Float} {z : ℤ} → Exactly p z → Exactly p (units p)
 own-units {p} e = subst (Exactly p) (sym (exactly-units e)) e
 
+pub at-pin : {c : Card} {a b p : Float} (n : ℤ) → c ≡ Spring a b → Exactly p (pressure c n)
+    → (lt_z n (pos 0) || le_z (units b) (units p)) ≡ at_pin c n
+unfolding at_pin
+at-pin {b} n e x =
+    let there = exactly-units x ∙ ap (λ k. pressure k n) e in
+    ap (λ z. lt_z n (pos 0) || le_z (units b) z) there ∙ sym (ap (λ k. at_pin k n) e)
+
+pub never-pin : {c : Card} {a b : Float} (n : ℤ) → c ≡ Bridge a b → false ≡ at_pin c n
+unfolding at_pin
+never-pin n e = sym (ap (λ k. at_pin k n) e)
+
 pressure-small : (c : Card) (n : ℤ) → sound c ≡ true → mag n < 32768 → nat_abs (pressure c n) < 2 ^ 53
 unfolding pressure
 pressure-small (Spring a b) n h k =
@@ -68,6 +81,10 @@ pressure-whole c n h k e =
 module _ {p : Float} (c : Card) (n r : ℤ) (e : Exactly p (pressure c n)) (f : r ≡ row (units p)) where
   pub row-of-pressure : r ≡ row (pressure c n)
   row-of-pressure = f ∙ ap row (exactly-units e)
+
+  -- o is whether that is on the grid
+  pub grid-of-pressure : {o b : Bool} → o ≡ on_grid r → o ≡ b → on_grid (row (pressure c n)) ≡ b
+  grid-of-pressure h g = ap on_grid (sym row-of-pressure) ∙ sym h ∙ g
 
 located-some : (r : ℤ) (d : Coord) → located r ≡ Some d → (on_grid r ≡ true) × (r ≡ d.v)
 unfolding located
@@ -99,13 +116,17 @@ zero_value = zero-exactly.value
 
 pub ruleset broken = (refusal_21, zero_held, zero_value)
 
--- ---- the three returns of `read_sound`
+-- ---- the returns of `read_sample`, three of them of `read_sound`
 
 module _ (c : Card) (n : ℤ) where
   refused : (e : GaugeRefusal) → eqb (number_of e) 0 ≡ false → refusal c n ≡ number_of e → Gauges c n (Err e)
   refused e some is =
       let none : eqb (refusal c n) 0 ≡ false = ap (λ m. eqb m 0) is ∙ some in
       record { number = sym is; exact = rw none zero-exactly; place = rw none }
+
+  pub return-21 : sound c ≡ false → Gauges c n (Err BrokenRule)
+  unfolding refusal
+  return-21 s = refused BrokenRule refl (rw s)
 
   pub return-22 : sound c ≡ true → at_pin c n ≡ true → Gauges c n (Err AtPin)
   unfolding refusal
@@ -165,5 +186,5 @@ number nan e = absurd e.value
 number (inf s) e = absurd e.value
 number (fin s m d) e = tt
 
-pub gauges-number : (c : Card) (n : ℤ) (g : Gauged) → Gauges c n g → T (not (is_nan (handed g).pressure))
-gauges-number c n g h = number (handed g).pressure h.exact
+pub gauges-number : (c : Card) (n : ℤ) {k : ℕ} (p : Float) {m : ℤ} → Sampled c n k p m → T (not (is_nan p))
+gauges-number c n p h = number p h.exact
