@@ -9,26 +9,31 @@
 --     read-answer       it has how many records were read, or the file's refusal and its place
 --     gauge-answer      it has the sample's refusal, and nothing else
 --     gauge-spring, gauge-bridge, gauge-other    what is read is what the card of that kind gives; 21 for any other
+--     gauge-refused     where the sample is refused, what is left is the positive zero and the row 0, whatever the kind
+--     gauge-spring-read, gauge-bridge-read    where it is read, what is left is exactly the pressure, with the row
 --     same-bz-check, ..  nothing is asked, any two outcomes of one call coincide, and so does what is lent back
 -- That each ends with an answer or a numbered refusal, and what was lent is then as it was: BoundaryQuestions.antt.
 -- Assumes nothing.
 use mathlib.Core.Path.{◌≡◌, sym, ap₂, ◌∙◌}
+use mathlib.Core.Logic.{◌≢◌}
 use mathlib.Core.List.{List}
-use Prim.Native.Nat.{ℕ, ◌-◌, ◌<◌}
+use Prim.Native.Nat.{ℕ, zero, suc, ◌-◌, ◌<◌}
 use native.Mathlib.Omega.{arith}
 use lib.IntN.{ℤ}
 use lib.Ieee.{Float}
 use lib.ListN.{length}
 use Rattle.plane.specs.declared.Point.{Point}
-use Rattle.std.specs.Prelude.{Option, Ok, pos, false}
+use Rattle.std.specs.Prelude.{Option, Ok, pos, true, false}
 use Rattle.std.specs.Float.{fin}
 use Rattle.parts.specs.declared.Which.{Which}
 use Rattle.chart.specs.Verdicts.{refusal_of, verdict}
 use Rattle.question.specs.Places.{placed}
 use Rattle.question.specs.Corners.{corner_of}
 use Rattle.area.specs.Areas.{area_of}
+use Rattle.grid.specs.Coordinates.{on_grid}
 use Rattle.gauge.specs.declared.Card.TheVariants.{Spring, Bridge}
-use Rattle.gauge.specs.Readings.{Sampled}
+use Rattle.gauge.specs.Values.{Exactly}
+use Rattle.gauge.specs.Readings.{pressure, row, Sampled}
 use Rattle.faces.specs.declared.answer.FaceCounts.{FaceCounts}
 use Rattle.faces.specs.Lists.{faces_of, list_refusal}
 use Rattle.sides.specs.declared.Op.{Op}
@@ -67,6 +72,7 @@ use Rattle.rig.proofs.bz_gauge.Kinds as bz-gauge-kinds
 use Rattle.rig.proofs.bz_gauge.Reads as bz-gauge
 use Rattle.rig.proofs.bz_read.Kinds as bz-read-kinds
 use Rattle.rig.proofs.bz_read.Reads as bz-read
+use Rattle.promises.proofs.Gauges.{reading-exact, reading-refused}
 use Rattle.promises.proofs.Settled.{Settled, SettledLent}
 
 -- ---- what an answer has
@@ -122,6 +128,21 @@ module _ (x y : Float) (n : ℤ) (r : ℕ) (p : Float) (m : ℤ) where
   pub gauge-other : (k : ℕ) → 1 < k → SampleRead k x y n r p m
       → (number_of r ≡ 21) × (p ≡ fin false 0 (pos 0)) × (m ≡ pos 0)
   gauge-other k l h = by-neither k x y n l h.reads
+
+  -- what C is left with
+  pub gauge-refused : (k : ℕ) → SampleRead k x y n r p m → number_of r ≢ 0
+      → (p ≡ fin false 0 (pos 0)) × (m ≡ pos 0)
+  gauge-refused zero h e = reading-refused (gauge-spring h) e
+  gauge-refused (suc zero) h e = reading-refused (gauge-bridge h) e
+  gauge-refused (suc (suc k)) h e = let g = gauge-other (suc (suc k)) (omega arith) h in (g.1, g.2)
+
+  pub gauge-spring-read : SampleRead 0 x y n r p m → number_of r ≡ 0
+      → Exactly p (pressure (Spring x y) n) × (m ≡ row (pressure (Spring x y) n)) × (on_grid m ≡ true)
+  gauge-spring-read h e = reading-exact (gauge-spring h) e
+
+  pub gauge-bridge-read : SampleRead 1 x y n r p m → number_of r ≡ 0
+      → Exactly p (pressure (Bridge x y) n) × (m ≡ row (pressure (Bridge x y) n)) × (on_grid m ≡ true)
+  gauge-bridge-read h e = reading-exact (gauge-bridge h) e
 
 -- ---- one outcome
 

@@ -28,7 +28,7 @@ use Rattle.gauge.specs.declared.Card.{Card}
 use Rattle.gauge.specs.declared.Card.TheVariants.{Spring, Bridge}
 use Rattle.gauge.specs.Values.{size, is_multiple, has_minus, units, Exactly}
 use Rattle.gauge.specs.Cards.{is_factor, is_from, is_pin, is_zero, sound}
-use Rattle.gauge.specs.Readings.{pressure, row, at_pin, refusal, Gauged, refusal_number, handed, Gauges}
+use Rattle.gauge.specs.Readings.{pressure, row, at_pin, refusal, Sampled}
 use Rattle.gauge.proofs.ExactLaws.{exactly-one, zero-exactly}
 use Rattle.gauge.proofs.RuleLaws as rules
 
@@ -98,22 +98,22 @@ module _ (c : Card) (n : ℤ) where
 abbrev kept : ℕ → ℤ → ℤ
 kept m z = cond (eqb m 0) z (pos 0)
 
-module _ {c : Card} {n : ℤ} (g : Gauged) (h : Gauges c n g) where
-  pub reading-exact : refusal_number g ≡ 0
-      → Exactly (handed g).pressure (pressure c n)
-      × ((handed g).row ≡ row (pressure c n)) × (on_grid (handed g).row ≡ true)
+-- k is the refusal's number, p the pressure and m the row: those of `Gauges c n g`, or what a sample leaves with C
+module _ {c : Card} {n : ℤ} {k : ℕ} {p : Float} {m : ℤ} (h : Sampled c n k p m) where
+  pub reading-exact : k ≡ 0
+      → Exactly p (pressure c n) × (m ≡ row (pressure c n)) × (on_grid m ≡ true)
   reading-exact e =
       let none : refusal c n ≡ 0 = sym h.number ∙ e in
-      let placed : (handed g).row ≡ row (pressure c n) = h.place ∙ ap (λ m. kept m (row (pressure c n))) none in (
-        subst (λ m. Exactly (handed g).pressure (kept m (pressure c n))) none h.exact,
+      let placed : m ≡ row (pressure c n) = h.place ∙ ap (λ j. kept j (row (pressure c n))) none in (
+        subst (λ j. Exactly p (kept j (pressure c n))) none h.exact,
         placed,
         ap on_grid placed ∙ ((read-0 c n).0 none).2,
       )
 
-  pub reading-refused : refusal_number g ≢ 0 → ((handed g).pressure ≡ fin false 0 (pos 0)) × ((handed g).row ≡ pos 0)
+  pub reading-refused : k ≢ 0 → (p ≡ fin false 0 (pos 0)) × (m ≡ pos 0)
   reading-refused e =
       let some : eqb (refusal c n) 0 ≡ false = ne_eqb (refusal c n) 0 (λ z. e (h.number ∙ z)) in
-      let float = subst (λ b. Exactly (handed g).pressure (cond b (pressure c n) (pos 0))) some h.exact in
+      let float = subst (λ b. Exactly p (cond b (pressure c n) (pos 0))) some h.exact in
       (exactly-one float zero-exactly, h.place ∙ ap (λ b. cond b (row (pressure c n)) (pos 0)) some)
 
 -- ---- floats that are no numbers, and the negative zero
