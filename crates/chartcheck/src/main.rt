@@ -10,9 +10,14 @@
 ghost use Rattle.std.specs.Prelude.{◌≡◌};
 ghost use Rattle.chartcheck.specs.Reports.{report, chart_report};
 
+use arrayvec::ArrayString;
 use chart::Refusal;
 use record::WIDTH;
 use std::fmt;
+use std::fmt::Write;
+
+// The longest line that can be said has 116 letters: 35 beside four numbers of twenty, and its end.
+const LINE: usize = 116;
 
 // What the line says of a sound chart.
 #[derive(Clone, Copy, Debug, PartialEq, Eq)]
@@ -38,15 +43,22 @@ impl fmt::Display for Report {
     }
 }
 
-// A line that standard output does not take is lost, and the program ends with status 0 as ever. Here and below memory
-// is fixed: no question can end for want of it.
-fn main(rt: HostRuntime) {
+// Here and below memory is fixed: no question can end for want of it.
+fn main() {
     let mut bytes = [0u8; 8192];
     let n = io::read_full(0, &mut bytes);
-    let _ = match report_on(&bytes[..n]) {
-        Ok(report) => println!(rt; "{report}"),
-        Err(Refusal { number, index }) => println!(rt; "refused {number} at {index}"),
+    say(report_on(&bytes[..n]));
+}
+
+// The line. It goes out by the kit's `io`, so that nothing of the C library stands under it but `write`. What standard
+// output does not take of it is lost, and the program ends with status 0 as ever.
+fn say(report: Result<Report, Refusal>) {
+    let mut line = ArrayString::<LINE>::new();
+    let _ = match report {
+        Ok(report) => writeln!(line, "{report}"),
+        Err(Refusal { number, index }) => writeln!(line, "refused {number} at {index}"),
     };
+    io::write_all(1, line.as_str().as_bytes());
 }
 
 // What a chart is said to be: each face has one outer cycle, the other cycles are holes. The arrays have room for as

@@ -1,7 +1,12 @@
 // An answer, and how it is said.
+use arrayvec::ArrayString;
 use chart::Refusal;
 use question::Place;
 use std::fmt;
+use std::fmt::Write;
+
+// More letters than any line has: a name has 32 at most, an answer 42, and a line its end.
+const LINE: usize = 80;
 
 #[derive(Clone, Copy, Debug, PartialEq, Eq)]
 pub(crate) enum Answer {
@@ -26,10 +31,13 @@ impl fmt::Display for Answer {
     }
 }
 
-// A line, what is asked and the answer. One that standard output does not take is lost, and the program goes on.
-pub(crate) fn say(rt: &impl Print, name: &str, answer: Result<Answer, Refusal>) {
+// A line, what is asked and the answer. It goes out by the kit's `io`, so that nothing of the C library stands under it
+// but `write`. What standard output does not take of it is lost, and the program goes on.
+pub(crate) fn say(name: &str, answer: Result<Answer, Refusal>) {
+    let mut line = ArrayString::<LINE>::new();
     let _ = match answer {
-        Ok(answer) => println!(rt; "{name:<32}{answer}"),
-        Err(Refusal { number, index }) => println!(rt; "{name:<32} refusal {number} at {index}"),
+        Ok(answer) => writeln!(line, "{name:<32}{answer}"),
+        Err(Refusal { number, index }) => writeln!(line, "{name:<32} refusal {number} at {index}"),
     };
+    io::write_all(1, line.as_str().as_bytes());
 }

@@ -95,7 +95,7 @@ fn row_of_squares() -> [[i16; 5]; 513] {
 
 // ---- asking
 
-pub(crate) fn say_areas(rt: &impl Print) {
+pub(crate) fn say_areas() {
     let squares = row_of_squares();
     let (most, _) = squares.split_at(512);
     let square = SQUARE.as_flattened();
@@ -114,7 +114,7 @@ pub(crate) fn say_areas(rt: &impl Print) {
         ("the empty chart", &[]),
     ];
     for (name, chart) in areas {
-        answer::say(rt, name, area_of(chart));
+        answer::say(name, area_of(chart));
     }
 }
 
@@ -122,7 +122,7 @@ fn area_of(chart: &[i16]) -> Result<Answer, Refusal> {
     Ok(Answer::Area(area::area2(chart)?))
 }
 
-pub(crate) fn say_places(rt: &impl Print) {
+pub(crate) fn say_places() {
     let places: [(&str, &[[i16; 5]], i16, i16); 9] = [
         ("(2,2) in the square", &SQUARE, 2, 2),
         ("(4,2) in the square", &SQUARE, 4, 2),
@@ -135,7 +135,7 @@ pub(crate) fn say_places(rt: &impl Print) {
         ("(0,0) in the triangle", &LARGE_TRIANGLE, 0, 0),
     ];
     for (name, chart, x, y) in places {
-        answer::say(rt, name, place_of(chart.as_flattened(), x, y));
+        answer::say(name, place_of(chart.as_flattened(), x, y));
     }
 }
 
@@ -143,14 +143,14 @@ fn place_of(chart: &[i16], x: i16, y: i16) -> Result<Answer, Refusal> {
     Ok(Answer::Place(question::point(chart, x, y)?))
 }
 
-pub(crate) fn say_joinings(rt: &impl Print) {
+pub(crate) fn say_joinings() {
     let joinings = [
         ("the square or its neighbour", Op::Union),
         ("the square and its neighbour", Op::Intersection),
         ("the square without its neighbour", Op::Difference),
     ];
     for (name, op) in joinings {
-        answer::say(rt, name, joined_by(op));
+        answer::say(name, joined_by(op));
     }
 }
 

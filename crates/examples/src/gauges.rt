@@ -4,7 +4,7 @@ use crate::answer::Answer;
 use chart::Refusal;
 use gauge::Card;
 
-pub(crate) fn say_samples(rt: &impl Print) {
+pub(crate) fn say_samples() {
     let samples = [
         ("gain 2, zero 0, sample 16383", bridge(2.0, 0.0), 16383),
         ("gain 2, zero 0, sample 16384", bridge(2.0, 0.0), 16384),
@@ -14,7 +14,7 @@ pub(crate) fn say_samples(rt: &impl Print) {
         ("rate 1, pin 1000, sample 1000", spring(1.0, 1000.0), 1000),
     ];
     for (name, card, sample) in samples {
-        answer::say(rt, name, reading_of(card, sample));
+        answer::say(name, reading_of(card, sample));
     }
 }
 

@@ -6,9 +6,9 @@ mod answer;
 mod charts;
 mod gauges;
 
-fn main(rt: HostRuntime) {
-    charts::say_areas(&rt);
-    charts::say_places(&rt);
-    charts::say_joinings(&rt);
-    gauges::say_samples(&rt);
+fn main() {
+    charts::say_areas();
+    charts::say_places();
+    charts::say_joinings();
+    gauges::say_samples();
 }
