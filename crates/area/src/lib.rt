@@ -84,7 +84,7 @@ fn sums_of_first(s: &[i16], n: usize) -> Sums
 // Both sums stay below 2 to the 44, so their difference fits.
 #[tactic(auto, using(plane::proofs::DifferenceLaws::diff, crate::proofs::AreaLaws::gains_less_losses, crate::proofs::CastLaws::differences))]
 fn twice_area(chart: &Chart) -> i64
-    ensures { result ≡ twice_area (records chart.now) }
+    ensures { result ≡ twice_area (records chart.now.now) }
 {
     let sums = sums_of_first(chart.numbers(), chart.record_count());
     sums.gains as i64 - sums.losses as i64

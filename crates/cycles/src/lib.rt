@@ -32,16 +32,16 @@ pub struct Cycles {
 // ---- a chart's records: both answers say besides, by `region`, what the laws of walks ask of the chart
 
 fn count_of(s: &Chart) -> usize
-    ensures value { result ≡ record_count s.now }
+    ensures value { result ≡ record_count s.now.now }
     ensures few { result ≤ limit }
-    ensures region { Region s.now }
+    ensures region { Region s.now.now }
 {
     record_count(s.numbers())
 }
 
 fn record_of(s: &Chart, i: usize) -> Record
-    ensures value { result ≡ record_at s.now i }
-    ensures region { Region s.now }
+    ensures value { result ≡ record_at s.now.now i }
+    ensures region { Region s.now.now }
 {
     record_at(s.numbers(), i)
 }
@@ -60,9 +60,9 @@ fn is_departing(r: Record) -> bool
 // chart is asked here and below: a type for it would have to carry the chart, and be no plainer.
 #[tactic(auto, using(crate::proofs::Sets::halves), unfolding(walks::specs::Ways::way_back))]
 fn way_back(s: &Chart, i: usize) -> usize
-    requires { i < record_count s.now }
-    ensures place { PlaceOf s.now (way_back s.now i) result }
-    ensures few { record_count s.now ≤ limit }
+    requires { i < record_count s.now.now }
+    ensures place { PlaceOf s.now.now (way_back s.now.now i) result }
+    ensures few { record_count s.now.now ≤ limit }
 {
     among::place_of(s.numbers(), other_half(record_of(s, i)))
 }
@@ -89,8 +89,8 @@ fn clockwise_from(s: &[i16], j: usize) -> usize
 
 // Which record is walked after record i.
 fn next_of(s: &Chart, i: usize) -> usize
-    requires { i < record_count s.now }
-    ensures { PlaceOf s.now (next s.now i) result }
+    requires { i < record_count s.now.now }
+    ensures { PlaceOf s.now.now (next s.now.now i) result }
 {
     clockwise_from(s.numbers(), way_back(s, i))
 }
@@ -99,14 +99,14 @@ fn next_of(s: &Chart, i: usize) -> usize
 
 // Whether record j departs from p.
 fn is_from(s: &Chart, p: Point, j: usize) -> bool
-    ensures { result ≡ from s.now p j }
+    ensures { result ≡ from s.now.now p j }
 {
     points::is_same(record_of(s, j).dom, p)
 }
 
 // The place, among the records that are left of a walk, of the one that departs from p.
 fn visit_of(s: &Chart, p: Point, rest: &[usize]) -> Option<usize>
-    ensures { result ≡ position (from s.now p) rest.now }
+    ensures { result ≡ position (from s.now.now p) rest.now }
 {
     rest.iter().position(|&j| is_from(s, p, j))
 }
@@ -115,8 +115,8 @@ fn visit_of(s: &Chart, p: Point, rest: &[usize]) -> Option<usize>
 // of a slice as it is cut: a type around each slice would be no plainer.
 #[tactic(auto, using(crate::proofs::Sets::halving))]
 fn first_half(s: &Chart, f: usize, cycle: &[usize]) -> usize
-    requires { Places s.now cycle.now }
-    ensures { result ≡ first_half s.now f cycle.now }
+    requires { Places s.now.now cycle.now }
+    ensures { result ≡ first_half s.now.now f cycle.now }
 {
     let mut least = f;
     for &j in cycle {
@@ -127,8 +127,8 @@ fn first_half(s: &Chart, f: usize, cycle: &[usize]) -> usize
 
 // Both halves of record j get the number v.
 fn name_record(s: &Chart, v: usize, j: usize, to: &mut [usize; LIMIT])
-    requires { j < record_count s.now }
-    ensures { to.new ≡ name_record s.now v j to.old }
+    requires { j < record_count s.now.now }
+    ensures { to.new ≡ name_record s.now.now v j to.old }
 {
     let b = way_back(s, j);
     to[j] = v;
@@ -138,8 +138,8 @@ fn name_record(s: &Chart, v: usize, j: usize, to: &mut [usize; LIMIT])
 // Both halves of each of the records of the cycle get the number v.
 #[tactic(auto, using(crate::proofs::Sets::naming))]
 fn name_all(s: &Chart, v: usize, cycle: &[usize], to: &mut [usize; LIMIT])
-    requires { Places s.now cycle.now }
-    ensures { to.new ≡ name_all s.now v cycle.now to.old }
+    requires { Places s.now.now cycle.now }
+    ensures { to.new ≡ name_all s.now.now v cycle.now to.old }
 {
     for &j in cycle {
         name_record(s, v, j, to);
@@ -151,8 +151,8 @@ fn name_all(s: &Chart, v: usize, cycle: &[usize], to: &mut [usize; LIMIT])
 // each walk.
 #[tactic(auto, using(crate::proofs::Sets::cuts))]
 fn cut_at(s: &Chart, p: Point, w: usize, rest: &mut ArrayVec<usize, LIMIT>, cycles: &mut Cycles)
-    requires { Places s.now rest.old.items }
-    ensures { CutTo s.now p w rest.old.items cycles.old.starts cycles.old.firsts
+    requires { Places s.now.now rest.old.items }
+    ensures { CutTo s.now.now p w rest.old.items cycles.old.starts cycles.old.firsts
         rest.new.items cycles.new.starts cycles.new.firsts }
 {
     let walked = rest.as_slice();
@@ -169,8 +169,8 @@ fn cut_at(s: &Chart, p: Point, w: usize, rest: &mut ArrayVec<usize, LIMIT>, cycl
 // so that its places are made once for all walks.
 #[tactic(auto, using(crate::proofs::CuttingLaws::cutting))]
 fn cut_walk(s: &Chart, w: usize, rest: &mut ArrayVec<usize, LIMIT>, cycles: &mut Cycles)
-    requires { w < record_count s.now }
-    ensures { CutWalk s.now w cycles.old.starts cycles.old.firsts cycles.new.starts cycles.new.firsts }
+    requires { w < record_count s.now.now }
+    ensures { CutWalk s.now.now w cycles.old.starts cycles.old.firsts cycles.new.starts cycles.new.firsts }
 {
     rest.clear();
     let mut j = w;
@@ -190,8 +190,8 @@ fn cut_walk(s: &Chart, w: usize, rest: &mut ArrayVec<usize, LIMIT>, cycles: &mut
 
 // Record i is next: a record that departs and has no start yet is the least of its walk, which is cut.
 fn cut_from(s: &Chart, i: usize, rest: &mut ArrayVec<usize, LIMIT>, cycles: &mut Cycles)
-    requires { i < record_count s.now }
-    ensures { CutFrom s.now i cycles.old.starts cycles.old.firsts cycles.new.starts cycles.new.firsts }
+    requires { i < record_count s.now.now }
+    ensures { CutFrom s.now.now i cycles.old.starts cycles.old.firsts cycles.new.starts cycles.new.firsts }
 {
     let n = s.record_count();
     if cycles.starts[i] == n && is_departing(record_of(s, i)) {
@@ -202,8 +202,8 @@ fn cut_from(s: &Chart, i: usize, rest: &mut ArrayVec<usize, LIMIT>, cycles: &mut
 // Each walk in turn.
 #[tactic(auto, using(crate::proofs::Sets::walking))]
 fn cut_walks(s: &Chart, cycles: &mut Cycles)
-    requires { Unset (record_count s.now) cycles.old.starts }
-    ensures { CutWalks s.now cycles.old.starts cycles.old.firsts cycles.new.starts cycles.new.firsts }
+    requires { Unset (record_count s.now.now) cycles.old.starts }
+    ensures { CutWalks s.now.now cycles.old.starts cycles.old.firsts cycles.new.starts cycles.new.firsts }
 {
     let mut rest = ArrayVec::<usize, LIMIT>::new();
     for i in 0..count_of(s) {
@@ -225,7 +225,7 @@ fn fill(v: usize, n: usize, to: &mut [usize])
 // none: the arrays are the answer's own, and Options would be copied into it.
 #[tactic(auto, using(crate::proofs::Sets::answering))]
 fn arrays_of(chart: &Chart) -> Cycles
-    ensures { result ≡ arrays_of chart.now }
+    ensures { result ≡ arrays_of chart.now.now }
 {
     let n = chart.record_count();
     let mut cycles = Cycles {

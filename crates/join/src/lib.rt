@@ -169,7 +169,7 @@ fn first_touching(a: &[i16], b: &[i16]) -> Option<usize>
 // Two charts. Nothing is written before it is known that all of it can be.
 #[tactic(auto, unfolding(crate::specs::Joinings::joined_in))]
 fn combine_charts(op: Op, a: &Chart, b: &Chart, out: &mut [i16]) -> Result<usize, JoinRefusal>
-    ensures { SoundJoins op a.now b.now out.old out.new result }
+    ensures { SoundJoins op a.now.now b.now.now out.old out.new result }
 {
     let pair = Pair {
         op,

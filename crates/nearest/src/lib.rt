@@ -54,7 +54,7 @@ pub fn highest_below(s: &[i16], p: Point) -> usize
 
 #[tactic(auto, using(crate::proofs::Sets::highest))]
 fn nearest_of(chart: &Chart, p: Point) -> Option<usize>
-    ensures { result ≡ nearest_of chart.now (record_count chart.now) p }
+    ensures { result ≡ nearest_of chart.now.now (record_count chart.now.now) p }
 {
     let i = highest_below(chart.numbers(), p);
     if i < chart.record_count() {
@@ -79,7 +79,7 @@ pub fn nearest_below(chart: &[i16], x: i16, y: i16) -> Result<Option<usize>, Cha
 // or by a `match`, the proof did not close.
 #[tactic(auto, using(crate::proofs::Sets::marked), unfolding(grid::specs::Coordinates::up))]
 fn is_marked_below(chart: &Chart, p: Point) -> bool
-    ensures { result ≡ odd (below (records chart.now) p) }
+    ensures { result ≡ odd (below (records chart.now.now) p) }
 {
     let s = chart.numbers();
     let i = highest_below(s, p);

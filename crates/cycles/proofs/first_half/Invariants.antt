@@ -4,4 +4,4 @@ use Rattle.cycles.specs.Steps.{first_half}
 use Rattle.cycles.proofs.first_half.Given as goal
 
 abbrev pub invariant-loop-j : goal.invariant-loop-j
-invariant-loop-j l = first_half l.s l.least (drop l.j-index l.cycle) ≡ first_half l.s l.f l.cycle
+invariant-loop-j l = first_half l.s.now l.least (drop l.j-index l.cycle) ≡ first_half l.s.now l.f l.cycle
