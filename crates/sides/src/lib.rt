@@ -54,9 +54,10 @@ fn is_upper_in(s: &[i16], t: Segment) -> bool
 }
 
 impl<'a> Pair<'a> {
-    // The array of the one or the other.
+    // The array of the one or the other, as it lies where the pair has it.
     pub fn of(self, which: Which) -> &'a [i16]
-        ensures { result.now ≡ side_of which self.entry.a.now self.entry.b.now }
+        ensures numbers { result.now ≡ side_of which self.entry.a.now self.entry.b.now }
+        ensures part { result ≡ side_of which self.entry.a self.entry.b }
     {
         match which {
             Which::First => self.a,
