@@ -2,6 +2,9 @@
 -- allows coincide.
 -- Assumes nothing.
 use mathlib.Core.Path.{◌≡◌, refl, sym, ap, ◌∙◌}
+use mathlib.Core.List.{List}
+use denote.Ref.{Bor}
+use lib.IntN.{ℤ}
 use Rattle.std.specs.Prelude.{Result, Ok, Err}
 use Rattle.std.specs.Result.{OkIff}
 use Rattle.grid.specs.declared.OffGrid.{OffGrid}
@@ -135,7 +138,7 @@ use Rattle.file.proofs.FileRefusalFromNumberRefusal.from.Kinds as file-from-numb
 use Rattle.file.proofs.FileRefusalFromNumberRefusal.from.Reads as file-from-number-refusal
 use Rattle.file.proofs.RefusalFromFileRefusal.from.Kinds as from-file-refusal-kinds
 use Rattle.file.proofs.RefusalFromFileRefusal.from.Reads as from-file-refusal
-use Rattle.promises.proofs.Settled.{Settled, SettledNumbers}
+use Rattle.promises.proofs.Settled.{Settled, SamePart, SettledPart}
 
 -- ---- grid
 
@@ -292,9 +295,14 @@ same-from-chart-refusal = ((λ κs a. tt), (λ κs a v w s t h k. h ∙ sym k))
 pub same-chart-new : Settled 1 chart-new-kinds.ps chart-new-kinds.r chart-new.Pre chart-new.Post
 same-chart-new = ((λ κs a. tt), (λ κs a v w s t h k. h ∙ sym k))
 
-pub same-numbers : SettledNumbers 2 numbers-kinds.ps numbers-kinds.r
-    numbers.Pre numbers.Post
-same-numbers = ((λ κs a. tt), (λ κs a p q s t h k. h.0 ∙ sym k.0))
+-- equal slices are one part
+one-part : (p q : Bor (List ℤ)) → p ≡ q → SamePart p q
+one-part p q e =
+    (ap (λ (b : Bor (List ℤ)). b.now) e, ap (λ (b : Bor (List ℤ)). b.ref_ptr.0) e,
+    ap (λ (b : Bor (List ℤ)). b.ref_ptr.1) e)
+
+pub same-numbers : SettledPart 2 numbers-kinds.ps numbers-kinds.r numbers.Pre numbers.Post
+same-numbers = ((λ κs a. tt), (λ κs a p q s t h k. one-part p q (h.0 ∙ sym k.0)))
 
 pub same-chart-record-count : Settled 2 chart-record-count-kinds.ps chart-record-count-kinds.r
     chart-record-count.Pre chart-record-count.Post
@@ -343,8 +351,8 @@ same-is-kept-second = ((λ κs a. tt), (λ κs a v w s t h k. h ∙ sym k))
 pub same-marked-afresh : Settled 2 marked-afresh-kinds.ps marked-afresh-kinds.r marked-afresh.Pre marked-afresh.Post
 same-marked-afresh = ((λ κs a. tt), (λ κs a v w s t h k. h ∙ sym k))
 
-pub same-of : SettledNumbers 1 of-kinds.ps of-kinds.r of.Pre of.Post
-same-of = ((λ κs a. tt), (λ κs a p q s t h k. h ∙ sym k))
+pub same-of : SettledPart 1 of-kinds.ps of-kinds.r of.Pre of.Post
+same-of = ((λ κs a. tt), (λ κs a p q s t h k. one-part p q (h.1 ∙ sym k.1)))
 
 pub same-is-kept : Settled 1 is-kept-kinds.ps is-kept-kinds.r is-kept.Pre is-kept.Post
 same-is-kept = ((λ κs a. tt), (λ κs a v w s t h k. h ∙ sym k))

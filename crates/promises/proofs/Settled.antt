@@ -5,7 +5,6 @@
 --     Settled n ps r Pre Post   nothing is asked, and any two outcomes v and w of one call that Post allows coincide
 --     SamePart p q              p and q are one part: its numbers, the array it lies in, and its place
 --     SettledPart n ps r Pre Post      nothing is asked, and any two outcomes are one part
---     SettledNumbers n ps r Pre Post   nothing is asked, and any two outcomes, slices, have the same numbers
 --     SettledLent n ps r B lent Pre Post    nothing is asked, any two outcomes coincide, and so does what is then lent
 --                               back, a B
 -- Assumes nothing.
@@ -36,13 +35,6 @@ SettledPart n ps r Pre Post =
     Open n ps Pre
     × ((κs : Lfts n) (a : Dens κs ps) (p q : Bor (List ℤ)) (s t : AtExit (ended_of n ps r) κs)
     → Post κs a p s → Post κs a q t → SamePart p q)
-
-abbrev pub SettledNumbers : (n : ℕ) (ps : List (ParamKind n)) (r : ResultKind n) → In n ps
-    → ((κs : Lfts n) → Dens κs ps → Bor (List ℤ) → AtExit (ended_of n ps r) κs → Type 0) → Type 0
-SettledNumbers n ps r Pre Post =
-    Open n ps Pre
-    × ((κs : Lfts n) (a : Dens κs ps) (p q : Bor (List ℤ)) (s t : AtExit (ended_of n ps r) κs)
-    → Post κs a p s → Post κs a q t → p.now ≡ q.now)
 
 abbrev pub SettledLent : (n : ℕ) (ps : List (ParamKind n)) (r : ResultKind n) (B : Type 0)
     → ((κs : Lfts n) → AtExit (ended_of n ps r) κs → B) → In n ps → Out n ps r → Type 0
