@@ -297,9 +297,11 @@ same-chart-new = ((λ κs a. tt), (λ κs a v w s t h k. h ∙ sym k))
 
 -- equal slices are one part
 one-part : (p q : Bor (List ℤ)) → p ≡ q → SamePart p q
-one-part p q e =
-    (ap (λ (b : Bor (List ℤ)). b.now) e, ap (λ (b : Bor (List ℤ)). b.ref_ptr.0) e,
-    ap (λ (b : Bor (List ℤ)). b.ref_ptr.1) e)
+one-part p q e = (
+  ap (λ (b : Bor (List ℤ)). b.now) e,
+  ap (λ (b : Bor (List ℤ)). b.ref_ptr.0) e,
+  ap (λ (b : Bor (List ℤ)). b.ref_ptr.1) e,
+)
 
 pub same-numbers : SettledPart 2 numbers-kinds.ps numbers-kinds.r numbers.Pre numbers.Post
 same-numbers = ((λ κs a. tt), (λ κs a p q s t h k. one-part p q (h.0 ∙ sym k.0)))
