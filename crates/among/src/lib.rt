@@ -98,7 +98,8 @@ fn is_ending_half(p: Point, e: Record) -> bool
 fn count_ends(s: &[i16], p: Point) -> usize
     ensures { result ≡ count_places (of_segment (ends_at p)) (record_at s.now) (record_count s.now) }
 {
-    (0..record_count(s))
+    let n = record_count(s);
+    (0..n)
         .filter(|&i| is_ending_half(p, record_at(s, i)))
         .count()
 }

@@ -1,17 +1,22 @@
--- One number of a file, by what the code has seen of the bytes from its place on: how many there are, and which go on.
--- A law for each arm of `take_number`, two for the fourth and four for the last; `grouping` has them all.
---     rest s at    the bytes of the file s from the place `at` on, as the code takes them
---     past_end, ends_before, ends_after-one, ends_after-two    the bytes end: the place is past them, none is there, or
---                  one or two that go on
---     one_group, two_groups, three_groups    the number of so many groups
---     second_zero, third_zero    a last group of zero after another
---     third_high   a third group that goes on
--- And group by group, by the byte at a place or that the bytes end there:
+-- One number of a file, by what the code has seen of the bytes from its place on: which are there, and which go on.
+-- A law for each exit of `take_number`, by the bytes at and after its place; `grouping` has them all:
+--     number_at-none, number_at-cut_one, number_at-cut_two    the bytes end: none is there, or one or two that go on
+--     number_at-one, number_at-two, number_at-three    the number of so many groups
+--     number_at-second_zero, number_at-third_zero    a last group of zero after another
+--     number_at-third_high    a third group that goes on
+-- Each is composed of the laws group by group, by the byte at a place or that the bytes end there:
 --     drop_here    the bytes from a place on begin with the byte there
 --     last_group-zero, last_group-value    a last group after another
 --     third-ends, third-goes-on, third_last    what the third group gives, where two give n
 --     second-ends, second-goes-on, second-last    the second, where one gives n
 --     number-ends, number-goes-on, number-whole    the first
+-- And by how many bytes there are from the place on:
+--     rest s at    the bytes of the file s from the place `at` on
+--     past_end, ends_before, ends_after-one, ends_after-two    the bytes end: the place is past them, none is there, or
+--                  one or two that go on
+--     one_group, two_groups, three_groups    the number of so many groups
+--     second_zero, third_zero    a last group of zero after another
+--     third_high   a third group that goes on
 -- Assumes nothing.
 use mathlib.Core.Path.{◌≡◌, refl, sym, ap, ◌∙◌}
 use mathlib.Core.List.{List, [], ◌∷◌}
@@ -208,15 +213,63 @@ module _ (s : List ℕ) (at : ℕ) {r : Number} where
   unfolding first_group
   number-whole h k b e = rw (number_in-groups (drop at s) at, drop_here s at h, lt-leb 128 (get_or s at 0) k, ← b) e
 
+-- ---- exit by exit, as `take_number` asks whether a byte is there, and which
+
+module _ (s : List ℕ) (at : ℕ) where
+  pub number_at-none : length s ≤ at → Err (Ends at) ≡ number_at s at
+  number_at-none h = number-ends s at h refl
+
+  pub number_at-one : at < length s → get_or s at 0 < 128 → got (bits (get_or s at 0)) (at + 1) ≡ number_at s at
+  number_at-one h k = number-whole s at h k refl refl
+
+  module _ (h : at < length s) (k : 128 ≤ get_or s at 0) where
+    pub number_at-cut_one : length s ≤ at + 1 → Err (Ends at) ≡ number_at s at
+    number_at-cut_one i = number-goes-on s at h k refl (second-ends s _ at i refl)
+
+    module _ (i : at + 1 < length s) where
+      pub number_at-second_zero : get_or s (at + 1) 0 ≡ 0 → Err (Overlong at) ≡ number_at s at
+      number_at-second_zero e =
+          number-goes-on s at h k refl (second-last s _ at i (omega arith) refl (last_group-zero _ _ at _ e refl))
+
+      pub number_at-two : 0 < get_or s (at + 1) 0 → get_or s (at + 1) 0 < 128
+          → got (bits (get_or s at 0) + 128 * bits (get_or s (at + 1) 0)) (at + 2) ≡ number_at s at
+      number_at-two p l =
+          number-goes-on s at h k refl
+          (second-last s _ at i l refl (last_group-value _ _ at _ (λ e. omega arith) refl))
+
+      module _ (l : 128 ≤ get_or s (at + 1) 0) where
+        goes_on-twice : {r : Number}
+            → r ≡ third_group (bits (get_or s at 0) + 128 * bits (get_or s (at + 1) 0)) (drop (at + 2) s) at
+            → r ≡ number_at s at
+        goes_on-twice e = number-goes-on s at h k refl (second-goes-on s _ at i l refl e)
+
+        pub number_at-cut_two : length s ≤ at + 2 → Err (Ends at) ≡ number_at s at
+        number_at-cut_two j = goes_on-twice (third-ends s _ at j refl)
+
+        module _ (j : at + 2 < length s) where
+          pub number_at-third_high : 128 ≤ get_or s (at + 2) 0 → Err (Overlong at) ≡ number_at s at
+          number_at-third_high m = goes_on-twice (third-goes-on s _ at j m refl)
+
+          pub number_at-third_zero : get_or s (at + 2) 0 ≡ 0 → Err (Overlong at) ≡ number_at s at
+          number_at-third_zero e =
+              goes_on-twice (third_last s _ at j (omega arith) refl (last_group-zero _ _ at _ e refl))
+
+          pub number_at-three : 0 < get_or s (at + 2) 0 → get_or s (at + 2) 0 < 128
+              → got
+              (bits (get_or s at 0) + 128 * bits (get_or s (at + 1) 0) + 16384 * bits (get_or s (at + 2) 0))
+              (at + 3)
+              ≡ number_at s at
+          number_at-three p m =
+              goes_on-twice (third_last s _ at j m refl (last_group-value _ _ at _ (λ e. omega arith) refl))
+
 pub ruleset grouping = (
-  past_end,
-  ends_before,
-  ends_after-one,
-  ends_after-two,
-  one_group,
-  second_zero,
-  two_groups,
-  third_high,
-  third_zero,
-  three_groups,
+  number_at-none,
+  number_at-one,
+  number_at-cut_one,
+  number_at-second_zero,
+  number_at-two,
+  number_at-cut_two,
+  number_at-third_high,
+  number_at-third_zero,
+  number_at-three,
 )

@@ -41,16 +41,21 @@ fn bits_of(b: u8) -> u32
 pub fn take_number(bytes: &[u8], at: usize) -> Result<(u32, usize), NumberRefusal>
     ensures { result ≡ number_at bytes.now at }
 {
-    match bytes.get(at..).unwrap_or(&[]) {
-        [a @ ..HIGH, ..] => Ok((bits_of(*a), at + 1)),
-        [_, 0, ..] => Err(NumberRefusal::Overlong(at)),
-        [a, b @ ..HIGH, ..] => Ok((bits_of(*a) + 128 * bits_of(*b), at + 2)),
-        [_, _, 0 | HIGH.., ..] => Err(NumberRefusal::Overlong(at)),
-        [a, b, c, ..] => Ok((
-            bits_of(*a) + 128 * bits_of(*b) + 16384 * bits_of(*c),
-            at + 3,
-        )),
-        _ => Err(NumberRefusal::Ends(at)),
+    let a = *bytes.get(at).ok_or(NumberRefusal::Ends(at))?;
+    if a < HIGH {
+        return Ok((bits_of(a), at + 1));
+    }
+    let b = *bytes.get(at + 1).ok_or(NumberRefusal::Ends(at))?;
+    if b < HIGH {
+        if b == 0 {
+            return Err(NumberRefusal::Overlong(at));
+        }
+        return Ok((bits_of(a) + 128 * bits_of(b), at + 2));
+    }
+    let c = *bytes.get(at + 2).ok_or(NumberRefusal::Ends(at))?;
+    match c {
+        0 | HIGH.. => Err(NumberRefusal::Overlong(at)),
+        _ => Ok((bits_of(a) + 128 * bits_of(b) + 16384 * bits_of(c), at + 3)),
     }
 }
 
